@@ -7,7 +7,7 @@ use Rattle.std.specs.Cmp.Lexicographic.{other_text, pointwise, same_text}
 use Rattle.std.proofs.lemmas.List.{map-append, length-map}
 use Rattle.std.proofs.lemmas.Option.{none-some, same_Some, slice_get-map}
 use Rattle.hep_explore.specs.declared.key.Key.{Key}
-use Rattle.hep_explore.specs.FoundStates.{words_in}
+use Rattle.hep_explore.specs.FoundStates.{bytes_in}
 
 -- where no element passes, the first place that passes is behind all
 place-of-none : {A : Type 0} (test : A → Bool) (xs : List A) → list_any test xs ≡ false → position_or_len test xs ≡ length xs
@@ -19,32 +19,43 @@ place-of-none test (x ∷ xs) none = by_test (place-of-none test xs) (test x) re
   by_test rest false is none = rw is (let e = rest none in omega arith)
 
 abbrev same_key : Key → Key → Bool
-same_key k l = pointwise nat_eq k.words.items l.words.items
+same_key k l = pointwise nat_eq k.bytes.items l.bytes.items
 
 abbrev with_key : List Key → Key → List Key
 with_key keys key = if list_any (same_key key) keys then keys else keys ++ key ∷ []
 
 -- the key at the index of an equal one has its words
 pub words-there : (keys : List Key) (i : ℕ) (key there : Key) → slice_get keys i ≡ Some there → same_key key there ≡ true
-    → slice_get (words_in keys) i ≡ Some key.words.items
+    → slice_get (bytes_in keys) i ≡ Some key.bytes.items
 words-there keys i key there is same =
-    slice_get-map (λ (k : Key). k.words.items) keys i
-    ∙ ap (option_map (λ (k : Key). k.words.items)) is
-    ∙ ap (λ ws. Some ws) (sym (same_text key.words.items there.words.items (sym same)))
+    slice_get-map (λ (k : Key). k.bytes.items) keys i
+    ∙ ap (option_map (λ (k : Key). k.bytes.items)) is
+    ∙ ap (λ ws. Some ws) (sym (same_text key.bytes.items there.bytes.items (sym same)))
 
 -- where no key is the same, none has its words
-unseen-words : (keys : List Key) (key : Key) → list_any (same_key key) keys ≡ false → (i : ℕ)
-    → slice_get (words_in keys) i ≢ Some key.words.items
-unseen-words [] key none i here = none-some key.words.items here
+pub unseen-words : (keys : List Key) (key : Key) → list_any (same_key key) keys ≡ false → (i : ℕ)
+    → slice_get (bytes_in keys) i ≢ Some key.bytes.items
+unseen-words [] key none i here = none-some key.bytes.items here
 unseen-words (k ∷ ks) key none zero here = by_first (same_key key k) refl none where
   by_first : (b : Bool) → same_key key k ≡ b → (b || list_any (same_key key) ks) ≡ false → ⊥
   by_first true is e = true≢false e
   by_first false is e =
-      other_text key.words.items k.words.items (sym is) (sym (same_Some k.words.items key.words.items here))
+      other_text key.bytes.items k.bytes.items (sym is) (sym (same_Some k.bytes.items key.bytes.items here))
 unseen-words (k ∷ ks) key none (suc i) here = unseen-words ks key (behind (same_key key k) (list_any (same_key key) ks) none) i here where
   behind : (b c : Bool) → (b || c) ≡ false → c ≡ false
   behind true c e = absurd (true≢false e)
   behind false c e = e
+
+-- where one is the same, one has its words
+pub seen-words : (keys : List Key) (key : Key) → list_any (same_key key) keys ≡ true → (i : ℕ)
+    × (slice_get (bytes_in keys) i ≡ Some key.bytes.items)
+seen-words [] key some = absurd (true≢false (sym some))
+seen-words (k ∷ ks) key some = by_first (seen-words ks key) (same_key key k) refl some where
+  by_first : (list_any (same_key key) ks ≡ true → (i : ℕ) × (slice_get (bytes_in ks) i ≡ Some key.bytes.items)) → (b : Bool)
+      → same_key key k ≡ b → (b || list_any (same_key key) ks) ≡ true → (i : ℕ)
+      × (slice_get (bytes_in (k ∷ ks)) i ≡ Some key.bytes.items)
+  by_first behind true is e = (0, ap (λ ws. Some ws) (sym (same_text key.bytes.items k.bytes.items (sym is))))
+  by_first behind false is e = let rest = behind e in (suc rest.0, rest.1)
 
 -- a key that isn't there is the last one
 module _ (old new : List Key) (key : Key) (added : true ≡ not (list_any (same_key key) old)) (are : new ≡ with_key old key) where
@@ -54,13 +65,13 @@ module _ (old new : List Key) (key : Key) (added : true ≡ not (list_any (same_
     by_test true is e = absurd (true≢false e)
     by_test false is e = is
 
-  pub index-added : position_or_len (same_key key) old ≡ length (words_in old)
-  index-added = place-of-none (same_key key) old none ∙ sym (length-map old (λ (k : Key). k.words.items))
+  pub index-added : position_or_len (same_key key) old ≡ length (bytes_in old)
+  index-added = place-of-none (same_key key) old none ∙ sym (length-map old (λ (k : Key). k.bytes.items))
 
-  pub words-added : words_in new ≡ words_in old ++ key.words.items ∷ []
+  pub words-added : bytes_in new ≡ bytes_in old ++ key.bytes.items ∷ []
   words-added =
-      ap words_in (are ∙ ap (λ b. if b then old else old ++ key ∷ []) none)
-      ∙ map-append (λ (k : Key). k.words.items) old (key ∷ [])
+      ap bytes_in (are ∙ ap (λ b. if b then old else old ++ key ∷ []) none)
+      ∙ map-append (λ (k : Key). k.bytes.items) old (key ∷ [])
 
-  pub words-unseen : (i : ℕ) → slice_get (words_in old) i ≢ Some key.words.items
+  pub words-unseen : (i : ℕ) → slice_get (bytes_in old) i ≢ Some key.bytes.items
   words-unseen = unseen-words old key none

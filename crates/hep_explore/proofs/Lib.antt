@@ -14,6 +14,7 @@ pub mod Texts
 pub mod Outcomes
 mod Worked
 mod WorkedTexts
+pub mod ByteGroups
 pub mod Codes
 pub mod FoundStates
 pub mod OutCells

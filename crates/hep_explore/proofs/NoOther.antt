@@ -16,8 +16,9 @@ use Rattle.hep_explore.specs.Texts.{Shows}
 use Rattle.hep_explore.proofs.LargerArenas.{none_stays, same_layout}
 use Rattle.hep_state.specs.Words.{IsAfter, Snapshot}
 use Rattle.hep_explore.specs.FoundOutcomes.{AreListed, AreOutcomes, IsListed}
-use Rattle.hep_explore.specs.Searching.{AreAlikeByKeys, AreExpanded, IsCutBy, IsDone, IsEnded, IsFound, IsFullPath, IsKept, IsSearch}
-use Rattle.hep_explore.specs.Searching.{IsSearchWithin, Known}
+use Rattle.hep_explore.specs.CountedStates.{IsCutBy}
+use Rattle.hep_explore.specs.Searching.{AreAlikeByKeys, AreExpanded, IsDone, IsEnded, IsFound, IsFullPath, IsKept, IsSearch}
+use Rattle.hep_explore.specs.Searching.{IsSearchWithin, IsWhole, Known}
 use Rattle.hep_explore.proofs.RunEnds.{HaveAllGaps, choices_shown, run_ends}
 
 -- all states of one machine end alike
@@ -37,7 +38,7 @@ found_alike program e a b found first second is =
       lines = is.lines ∙ (ap (λ os. os ++ a.messages) output ∙ ap (λ ms. b.output ++ ms) messages);
     }
 
-module _ (program : Units) (s : Known) (search : IsSearch program s) (expanded : AreExpanded program s.expanded s) (whole : s.full ≡ None)
+module _ (program : Units) (s : Known) (search : IsSearch program s) (expanded : AreExpanded program s.expanded s) (whole : IsWhole s)
     (done : s.queue ≡ []) where
   -- each state is expanded
   is_expanded : (i : ℕ) → i < length s.states → i < s.expanded
@@ -131,27 +132,25 @@ is_explored program cells all complete outcomes no_other =
       no_other = no_other;
     }
 
--- a search in which no step was left out, or that goes on where one is, has expanded all states or found more than it may
-pub done_by : (most : ℕ) (until_full : Bool) (s : Known) → (until_full ≡ true → s.full ≡ None) → IsDone most until_full s
-    → (s.queue ≡ []) ⊎ (most < length s.states)
-done_by most until_full s none (inl done) = inl done
-done_by most until_full s none (inr (inl more)) = inr more
-done_by most until_full s none (inr (inr (ends, some))) = absurd (some (none ends))
+-- a search in which each frame has its gap, or that goes on where one has none, has expanded all states
+pub done_by : (until_full : Bool) (s : Known) → (until_full ≡ true → s.full ≡ None) → IsDone until_full s → s.queue ≡ []
+done_by until_full s none (inl done) = done
+done_by until_full s none (inr (ends, some)) = absurd (some (none ends))
 
 -- what a search shows that has done what it can
 module _ (program : Units) (cells most : ℕ) (s : Known) (within : IsSearchWithin program cells most s) where
   -- so it is of a search that is complete where each state is expanded and no step was left out
   pub search_explored : AreAlikeByKeys program → EndAlike program → (all : List Found) → AreOutcomes program cells all
-      → AreListed program cells s (length s.ended) all → (complete : Bool) → (complete ≡ true → (s.full ≡ None) × (s.queue ≡ []))
+      → AreListed program cells s (length s.ended) all → (complete : Bool) → (complete ≡ true → IsWhole s)
       → IsExplored program cells all complete
   search_explored alike end_alike all outcomes listed complete is_whole =
       is_explored program cells all complete outcomes (
       λ yes o possible.
-      is_listed program s within.search within.expanded (is_whole yes).0 (is_whole yes).1 cells within.within alike end_alike all listed
+      is_listed program s within.search within.expanded (is_whole yes) within.done cells within.within alike end_alike all listed
       o possible)
 
   -- and else it is known why it isn't
-  pub search_cut : (s.full ≡ None) ⊎ ((choices : List ℕ) × IsFullPath program s.cells choices) → (s.full ≢ None) ⊎ (s.queue ≢ [])
+  pub search_cut : (s.full ≡ None) ⊎ ((choices : List ℕ) × IsFullPath program s.cells choices) → (s.full ≢ None) ⊎ (s.cut ≡ true)
       → IsCutBy program cells most (length s.states)
   search_cut stopped (inl full) = by_full within.full stopped where
     by_full : (s.full ≡ None) ⊎ (s.cells ≡ cells) → (s.full ≡ None) ⊎ ((choices : List ℕ) × IsFullPath program s.cells choices)
@@ -159,10 +158,7 @@ module _ (program : Units) (cells most : ℕ) (s : Known) (within : IsSearchWith
     by_full (inl none) path = absurd (full none)
     by_full (inr same) (inl none) = absurd (full none)
     by_full (inr same) (inr path) = inr (path.0, subst (λ n. IsFullPath program n path.0) same path.1)
-  search_cut stopped (inr left) = by_done within.done where
-    by_done : (s.queue ≡ []) ⊎ (most < length s.states) → IsCutBy program cells most (length s.states)
-    by_done (inl none) = absurd (left none)
-    by_done (inr more) = inl more
+  search_cut stopped (inr left) = let enough = within.search.cut left in inl (omega (arith, within.bounded))
 
 -- ---- a program that doesn't fit
 

@@ -1,7 +1,9 @@
 -- A search that goes on: it still is one, and its first states stay expanded.
-use Rattle.std.proofs.Common.{◌≡◌, ◌≢◌, ◌⊎◌, inl, inr, ℕ, zero, suc, true, ◌+◌, ◌<◌, ◌≤◌, false, List, [], ◌∷◌, ◌++◌, length, Bool, Option}
+use Rattle.std.proofs.Common.{◌≡◌, ◌≢◌, ◌⊎◌, inl, inr, ℕ, zero, suc, true, true≢false, ◌+◌, ◌<◌, ◌≤◌, false, ◌||◌, not, List, [], ◌∷◌}
+use Rattle.std.proofs.Common.{◌++◌, length, Bool, Option}
 use Rattle.std.proofs.Common.{Some, None, get_or, refl, sym, ap, ◌∙◌, subst, arith, slice_get}
 use Rattle.std.specs.Option.{unwrap_or}
+use Rattle.std.proofs.lemmas.Bool.{not-false, or_parts}
 use Rattle.std.proofs.lemmas.List.{length-append}
 use Rattle.std.proofs.lemmas.Option.{none-some, same_Some, slice_get-get_or, slice_get_within}
 use Rattle.hep_source.proofs.Tests.{at-front, at-last}
@@ -11,7 +13,7 @@ use Rattle.hep_state.specs.declared.core_state.CoreState.{CoreState}
 use Rattle.hep_state.specs.Words.{HasNoGap, IsMachineAfter, snapshot_of}
 use Rattle.hep_explore.specs.Keys.{IsKeyOf}
 use Rattle.hep_explore.specs.Searching.{AreAlikeByKeys, AreExpanded, GoesOn, HasKey, IsEnded, IsFound, IsFullStep, IsKept, IsNumbered}
-use Rattle.hep_explore.specs.Searching.{IsOrigin, IsSearch, IsVisit, KeepsStates, Known}
+use Rattle.hep_explore.specs.Searching.{IsOrigin, IsSearch, IsVisit, IsWhole, KeepsStates, Known}
 use Rattle.hep_explore.specs.declared.search.Origin.{Origin}
 
 -- ---- machines with one key
@@ -38,8 +40,8 @@ machine_kept program cells m key before is_key after = record { machine = snapsh
 
 -- searches that know the same are the same
 pub same_known : (a b : Known) → a.cells ≡ b.cells → a.states ≡ b.states → a.origins ≡ b.origins → a.queue ≡ b.queue
-    → a.expanded ≡ b.expanded → a.ended ≡ b.ended → a.full ≡ b.full → a ≡ b
-same_known a b cells states origins queue expanded ended full =
+    → a.expanded ≡ b.expanded → a.ended ≡ b.ended → a.full ≡ b.full → a.most ≡ b.most → a.cut ≡ b.cut → a ≡ b
+same_known a b cells states origins queue expanded ended full most cut =
     λ i. record {
       cells = cells i;
       states = states i;
@@ -48,6 +50,8 @@ same_known a b cells states origins queue expanded ended full =
       expanded = expanded i;
       ended = ended i;
       full = full i;
+      most = most i;
+      cut = cut i;
     }
 
 module _ (program : Units) (old new : Known) (on : KeepsStates old new) where
@@ -99,9 +103,13 @@ module _ (program : Units) (old new : Known) (on : KeepsStates old new) where
             subst (λ c. HasNoGap program c before o.process) (sym on.cells) (step.full before (kept_before before step.from kept));
       }
 
+-- no state is lost where nothing changes
+all_kept : (s : Known) → KeepsStates s s
+all_kept s = record { cells = refl; most = refl; states = λ i key is. is }
+
 -- a search goes on as it is
 pub stays_on : (s : Known) → GoesOn s s
-stays_on s = record { kept = record { cells = refl; states = λ i key is. is }; ended = refl; whole = λ whole. whole }
+stays_on s = record { kept = all_kept s; ended = refl; whole = λ whole. whole }
 
 -- and by way of another one
 pub then_on : (a b c : Known) → GoesOn a b → GoesOn b c → GoesOn a c
@@ -109,6 +117,7 @@ then_on a b c first second =
     record {
       kept = record {
         cells = second.kept.cells ∙ first.kept.cells;
+        most = second.kept.most ∙ first.kept.most;
         states = λ i key is. second.kept.states i key (first.kept.states i key is);
       };
       ended = second.ended ∙ first.ended;
@@ -147,13 +156,14 @@ module _ (program : Units) (old new : Known) (on : GoesOn old new) (n : ℕ) (fe
 -- ---- one state more
 
 module _ (program : Units) (s : Known) (search : IsSearch program s) (m : CoreState) (o : Origin) (visit : IsVisit program s m o)
-    (key : List ℕ) (is_key : IsKeyOf program (snapshot_of m) key) (unseen : (i : ℕ) → slice_get s.states i ≢ Some key) where
+    (key : List ℕ) (is_key : IsKeyOf program (snapshot_of m) key) (unseen : (i : ℕ) → slice_get s.states i ≢ Some key)
+    (room : length s.states < s.most) where
   -- what a search knows then
   abbrev pub with_state : Known
   with_state = record s { states = s.states ++ key ∷ []; origins = s.origins ++ o ∷ []; queue = s.queue ++ m ∷ [] }
 
   more : KeepsStates s with_state
-  more = record { cells = refl; states = λ i k is. at-front s.states (key ∷ []) i k is }
+  more = record { cells = refl; most = refl; states = λ i k is. at-front s.states (key ∷ []) i k is }
 
   -- the new state has its origin
   new_origin : IsOrigin program with_state (length s.states) o
@@ -202,6 +212,11 @@ module _ (program : Units) (s : Known) (search : IsSearch program s) (m : CoreSt
             let c = search.counted in
             omega arith;
         full = λ x e. full_on program s with_state more x (search.full x e);
+        few = let b : length (s.states ++ key ∷ []) ≡ length s.states + 1 = simp length-append in omega arith;
+        cut = λ is.
+            let b : length (s.states ++ key ∷ []) ≡ length s.states + 1 = simp length-append in
+            let enough = search.cut is in
+            omega arith;
         queued = λ k x here. by_queued k x (get-one-more s.queue m k x here);
       }
     where
@@ -226,23 +241,48 @@ module _ (program : Units) (s : Known) (search : IsSearch program s) (m : CoreSt
           let at : length s.states ≡ s.expanded + k = sym search.counted ∙ ap (λ j. s.expanded + j) (sym last) in
           subst (λ j. IsNumbered program with_state j x) at (subst (IsNumbered program with_state (length s.states)) new new_numbered)
 
+-- a search in which a state is told to have ended, or the search to be cut short
+pub told_is_search : (program : Units) (s : Known) (ended : List ℕ) (cut : Bool) → IsSearch program s
+    → (cut ≡ true → s.most ≤ length s.states) → IsSearch program (record s { ended = ended; cut = cut })
+told_is_search program s ended cut search enough =
+    record {
+      opening = search.opening;
+      opening_is = search.opening_is;
+      different = search.different;
+      begins = search.begins;
+      origins = search.origins;
+      origin = λ i o some here. origin_on program s told on i o (search.origin i o some here);
+      counted = search.counted;
+      full = λ o e. full_on program s told on o (search.full o e);
+      few = search.few;
+      cut = enough;
+      queued = λ k m here. numbered_on program s told on (s.expanded + k) m (search.queued k m here);
+    }
+  where
+    told : Known
+    told = record s { ended = ended; cut = cut }
+
+    on : KeepsStates s told
+    on = record { cells = refl; most = refl; states = λ i k is. is }
+
 -- what a search knows after a step
 pub record HasVisited (program : Units) (old new : Known) (m : CoreState) : Type 0 where
   pub search : IsSearch program new
   pub goes_on : GoesOn old new
-  pub found : HasKey program new m
+  pub found : IsWhole new → HasKey program new m
 
 -- a step led to a new state
 pub new_visit : (program : Units) (s new : Known) (search : IsSearch program s) (m : CoreState) (o : Origin)
     → (visit : IsVisit program s m o) → (key : List ℕ) → (is_key : IsKeyOf program (snapshot_of m) key)
-    → (unseen : (i : ℕ) → slice_get s.states i ≢ Some key) → new ≡ with_state program s search m o visit key is_key unseen
+    → (unseen : (i : ℕ) → slice_get s.states i ≢ Some key) → (room : length s.states < s.most)
+    → new ≡ with_state program s search m o visit key is_key unseen room
     → HasVisited program s new m
-new_visit program s new search m o visit key is_key unseen e =
+new_visit program s new search m o visit key is_key unseen room e =
     subst (λ n. HasVisited program s n m) (sym e) (
     record {
-      search = more_is_search program s search m o visit key is_key unseen;
-      goes_on = more_goes_on program s search m o visit key is_key unseen;
-      found = record { number = length s.states; key = key; numbered = at-last s.states key; is_key = is_key };
+      search = more_is_search program s search m o visit key is_key unseen room;
+      goes_on = more_goes_on program s search m o visit key is_key unseen room;
+      found = λ whole. record { number = length s.states; key = key; numbered = at-last s.states key; is_key = is_key };
     })
 
 -- or to one that was found before
@@ -252,7 +292,28 @@ seen_visit program s new m number key search is_key there e =
     record {
       search = subst (IsSearch program) (sym e) search;
       goes_on = subst (GoesOn s) (sym e) (stays_on s);
-      found = record { number = number; key = key; numbered = there; is_key = is_key };
+      found = λ whole. record { number = number; key = key; numbered = there; is_key = is_key };
+    }
+
+-- or to one that is left out, if it wasn't found before, where as many as may be were found
+pub last_visit : (program : Units) (s : Known) (m : CoreState) (key : List ℕ) (seen : Bool) → IsSearch program s
+    → IsKeyOf program (snapshot_of m) key → s.most ≤ length s.states
+    → (seen ≡ true → (number : ℕ) × (slice_get s.states number ≡ Some key))
+    → HasVisited program s (record s { cut = s.cut || not seen }) m
+last_visit program s m key seen search is_key enough there =
+    record {
+      search = told_is_search program s s.ended (s.cut || not seen) search (λ is. enough);
+      goes_on = record {
+        kept = record { cells = refl; most = refl; states = λ i k is. is };
+        ended = refl;
+        whole = λ whole. (
+          whole.0,
+          (or_parts s.cut (not seen) whole.1).0,
+        );
+      };
+      found = λ whole.
+          let at = there (not-false seen (or_parts s.cut (not seen) whole.1).1) in
+          record { number = at.0; key = key; numbered = at.1; is_key = is_key };
     }
 
 -- a search that leaves out a step
@@ -261,10 +322,10 @@ module _ (s : Known) (o : Origin) where
   with_full = record s { full = Some (unwrap_or s.full o) }
 
   on_full : KeepsStates s with_full
-  on_full = record { cells = refl; states = λ i k is. is }
+  on_full = record { cells = refl; most = refl; states = λ i k is. is }
 
   pub full_goes_on : GoesOn s with_full
-  full_goes_on = record { kept = on_full; ended = refl; whole = λ none. absurd (none-some (unwrap_or s.full o) (sym none)) }
+  full_goes_on = record { kept = on_full; ended = refl; whole = λ whole. absurd (none-some (unwrap_or s.full o) (sym whole.0)) }
 
   pub full_is_search : (program : Units) → IsSearch program s → IsFullStep program s o → IsSearch program with_full
   full_is_search program search step =
@@ -277,6 +338,8 @@ module _ (s : Known) (o : Origin) where
         origin = λ i x some here. origin_on program s with_full on_full i x (search.origin i x some here);
         counted = search.counted;
         full = λ x e. full_on program s with_full on_full x (first s.full refl x e);
+        few = search.few;
+        cut = search.cut;
         queued = λ k m here. numbered_on program s with_full on_full (s.expanded + k) m (search.queued k m here);
       }
     where
@@ -291,7 +354,7 @@ module _ (program : Units) (s : Known) (search : IsSearch program s) (m : CoreSt
   taken = record s { queue = rest; expanded = s.expanded + 1 }
 
   same : KeepsStates s taken
-  same = record { cells = refl; states = λ i k is. is }
+  same = record { cells = refl; most = refl; states = λ i k is. is }
 
   pub taken_goes_on : GoesOn s taken
   taken_goes_on = record { kept = same; ended = refl; whole = λ whole. whole }
@@ -313,35 +376,16 @@ module _ (program : Units) (s : Known) (search : IsSearch program s) (m : CoreSt
         origin = λ i o some here. origin_on program s taken same i o (search.origin i o some here);
         counted = let c = ap length first in let d = search.counted in omega arith;
         full = λ o e. full_on program s taken same o (search.full o e);
+        few = search.few;
+        cut = search.cut;
         queued = λ k x here.
             let at : s.expanded + suc k ≡ s.expanded + 1 + k = omega arith in
             numbered_on program s taken same (s.expanded + 1 + k) x (
             subst (λ i. IsNumbered program s i x) at (search.queued (suc k) x (ap (λ q. slice_get q (suc k)) first ∙ here)));
       }
 
--- a search in which a state is told to have ended
-pub ended_is_search : (program : Units) (s : Known) (ended : List ℕ) → IsSearch program s → IsSearch program (record s { ended = ended })
-ended_is_search program s ended search =
-    record {
-      opening = search.opening;
-      opening_is = search.opening_is;
-      different = search.different;
-      begins = search.begins;
-      origins = search.origins;
-      origin = λ i o some here. origin_on program s told on i o (search.origin i o some here);
-      counted = search.counted;
-      full = λ o e. full_on program s told on o (search.full o e);
-      queued = λ k m here. numbered_on program s told on (s.expanded + k) m (search.queued k m here);
-    }
-  where
-    told : Known
-    told = record s { ended = ended }
-
-    on : KeepsStates s told
-    on = record { cells = refl; states = λ i k is. is }
-
 -- the search of the opening alone
-pub opening_is_search : (program : Units) (cells : ℕ) (m : CoreState) (o : Origin) (key : List ℕ) → IsKeyOf program (snapshot_of m) key
+pub opening_is_search : (program : Units) (cells most : ℕ) (m : CoreState) (o : Origin) (key : List ℕ) → IsKeyOf program (snapshot_of m) key
     → IsMachineAfter program cells [] m
     → IsSearch program (record {
       cells = cells;
@@ -351,8 +395,10 @@ pub opening_is_search : (program : Units) (cells : ℕ) (m : CoreState) (o : Ori
       expanded = 0;
       ended = [];
       full = None;
+      most = most;
+      cut = false;
     })
-opening_is_search program cells m o key is_key after =
+opening_is_search program cells most m o key is_key after =
     record {
       opening = key;
       opening_is = refl;
@@ -365,6 +411,8 @@ opening_is_search program cells m o key is_key after =
       origin = λ i x some here. (let one = slice_get_within (o ∷ []) i x here in absurd (omega arith));
       counted = refl;
       full = λ x e. absurd (none-some x e);
+      few = omega arith;
+      cut = λ is. absurd (true≢false (sym is));
       queued = λ k x here. (let at : k ≡ 0 + k = omega arith in subst (λ j. IsNumbered program opened j x) at (by_first k x here));
     }
   where
@@ -377,6 +425,8 @@ opening_is_search program cells m o key is_key after =
       expanded = 0;
       ended = [];
       full = None;
+      most = most;
+      cut = false;
     }
 
     by_first : (k : ℕ) (x : CoreState) → slice_get (m ∷ []) k ≡ Some x → IsNumbered program opened k x
@@ -388,10 +438,10 @@ opening_is_search program cells m o key is_key after =
 -- what a search knows that has the opening alone
 pub is_opened : (program : Units) (s : Known) (m : CoreState) (o : Origin) (key : List ℕ) → IsKeyOf program (snapshot_of m) key
     → IsMachineAfter program s.cells [] m → s.states ≡ key ∷ [] → s.origins ≡ o ∷ [] → s.queue ≡ m ∷ [] → s.expanded ≡ 0 → s.ended ≡ []
-    → s.full ≡ None → IsSearch program s
-is_opened program s m o key is_key after states origins queue expanded ended full =
-    subst (IsSearch program) (sym (same_known s opened refl states origins queue expanded ended full)) (
-    opening_is_search program s.cells m o key is_key after)
+    → s.full ≡ None → s.cut ≡ false → IsSearch program s
+is_opened program s m o key is_key after states origins queue expanded ended full cut =
+    subst (IsSearch program) (sym (same_known s opened refl states origins queue expanded ended full refl cut)) (
+    opening_is_search program s.cells s.most m o key is_key after)
   where
     opened : Known
     opened = record {
@@ -402,6 +452,8 @@ is_opened program s m o key is_key after states origins queue expanded ended ful
       expanded = 0;
       ended = [];
       full = None;
+      most = s.most;
+      cut = false;
     }
 
 -- a key that is inserted where there are no states is the first one

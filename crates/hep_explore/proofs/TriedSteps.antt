@@ -15,7 +15,7 @@ use Rattle.hep_state.specs.Words.{IsMachineAfter}
 use Rattle.hep_state.proofs.ProcessNumbers.{length-stacks}
 use Rattle.hep_explore.specs.Searching.{AreAlikeByKeys, AreExpanded, AreTried, GoesOn, HasKey, IsEnded, IsFound, IsFullStep, IsKept}
 use Rattle.hep_explore.specs.Searching.{IsNumbered, IsTried}
-use Rattle.hep_explore.specs.Searching.{IsVisit, IsWholeTry, Known}
+use Rattle.hep_explore.specs.Searching.{IsVisit, IsWhole, IsWholeTry, Known}
 use Rattle.hep_explore.specs.Successors.{IsSuccessor}
 use Rattle.hep_explore.specs.declared.search.Origin.{Origin}
 use Rattle.hep_explore.specs.declared.successor.Successor.TheVariants.{Full, Machine, Nothing}
@@ -38,16 +38,17 @@ module _ (program : Units) (m : CoreState) where
         after = (is s.cells numbered.choices numbered.after).after;
       }
 
-  pub tried_made : (new : Known) (p : ℕ) (next : CoreState) → HasKey program new next → IsSuccessor program p m (Machine next)
+  pub tried_made : (new : Known) (p : ℕ) (next : CoreState) → (IsWhole new → HasKey program new next) → IsSuccessor program p m (Machine next)
       → IsTried program m p true new
   tried_made new p next has is =
       record {
         found = λ whole before after some.
+            let at = has whole in
             record {
-              number = has.number;
-              key = has.key;
-              numbered = has.numbered;
-              kept = machine_kept program new.cells next has.key (before ++ p ∷ []) has.is_key (is new.cells before after).after;
+              number = at.number;
+              key = at.key;
+              numbered = at.numbered;
+              kept = machine_kept program new.cells next at.key (before ++ p ∷ []) at.is_key (is new.cells before after).after;
             };
         some = λ moved before after. (is new.cells before after).stepped;
         none = λ moved. absurd (true≢false moved);
@@ -68,7 +69,7 @@ module _ (program : Units) (m : CoreState) where
   pub tried_full : (new : Known) (p : ℕ) → new.full ≢ None → IsSuccessor program p m Full → IsTried program m p true new
   tried_full new p some is =
       record {
-        found = λ whole. absurd (some whole);
+        found = λ whole. absurd (some whole.0);
         some = λ moved before after. (is new.cells before after).stepped;
         none = λ moved. absurd (true≢false moved);
       }
@@ -101,7 +102,7 @@ module _ (program : Units) (m : CoreState) where
     old_after before after = subst (λ c. IsMachineAfter program c before m) on.kept.cells after
 
     -- of the first processes and the next one
-    found_more : (this : Bool) → IsTried program m (n + 1) this new → new.full ≡ None → (p : ℕ) (before : List ℕ) → p ≤ n + 1
+    found_more : (this : Bool) → IsTried program m (n + 1) this new → IsWhole new → (p : ℕ) (before : List ℕ) → p ≤ n + 1
         → IsMachineAfter program new.cells before m → step program p (run program before) ≢ None → IsFound program new (before ++ p ∷ [])
     found_more this tried whole p before few after some = by_place (cases_lt n p) where
       by_place : (n < p) ⊎ (p ≤ n) → IsFound program new (before ++ p ∷ [])
@@ -167,7 +168,7 @@ module _ (program : Units) (m : CoreState) where
         none = λ never before after p. by_none never p before after (cases_lt m.made p);
       }
     where
-      by_found : s.full ≡ None → (p : ℕ) (before : List ℕ) → IsMachineAfter program s.cells before m
+      by_found : IsWhole s → (p : ℕ) (before : List ℕ) → IsMachineAfter program s.cells before m
           → step program p (run program before) ≢ None → (m.made < p) ⊎ (p ≤ m.made) → IsFound program s (before ++ p ∷ [])
       by_found whole p before after some (inr few) = tried.found whole p before few after some
       by_found whole p before after some (inl past) = absurd (some (not_made s.cells before p after past))
@@ -201,7 +202,7 @@ module _ (program : Units) (alike : AreAlikeByKeys program) (s : Known) (from : 
 
   module _ (moved : Bool) (tried : IsWholeTry program m moved s) where
     -- each step leads to a state that was found
-    closed_more : s.full ≡ None → (i p : ℕ) (key before : List ℕ) → i < from + 1 → slice_get s.states i ≡ Some key
+    closed_more : IsWhole s → (i p : ℕ) (key before : List ℕ) → i < from + 1 → slice_get s.states i ≡ Some key
         → IsKept program s.cells before key → step program p (run program before) ≢ None → IsFound program s (before ++ p ∷ [])
     closed_more whole i p key before less is kept some = by_place (cases_lt i from) where
       by_place : (i < from) ⊎ (from ≤ i) → IsFound program s (before ++ p ∷ [])

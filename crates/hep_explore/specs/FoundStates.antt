@@ -2,6 +2,6 @@
 use Rattle.std.specs.Prelude.{ℕ, List, map}
 use Rattle.hep_explore.specs.declared.key.Key.{Key}
 
--- the words of each key
-abbrev pub words_in : List Key → List (List ℕ)
-words_in keys = map (λ (k : Key). k.words.items) keys
+-- the bytes of each key
+abbrev pub bytes_in : List Key → List (List ℕ)
+bytes_in keys = map (λ (k : Key). k.bytes.items) keys

@@ -1,5 +1,6 @@
--- What a machine keeps as words, by which machines are compared: docs/MACHINE.md, "Layout".
-use Rattle.std.specs.Prelude.{◌≡◌, ℕ, ◌+◌, Bool, if◌then◌else◌, List, [], ◌∷◌, ◌++◌, length, Option, Some, None, int_lt, pos, unsigned_abs}
+-- What a machine keeps as words and as bytes, by which machines are compared: docs/MACHINE.md, "Layout".
+use Rattle.std.specs.Prelude.{◌≡◌, ℕ, zero, suc, ◌+◌, ◌/◌, ◌%◌, nat_lt, Bool, if◌then◌else◌, List, [], ◌∷◌, ◌++◌, length, Option, Some}
+use Rattle.std.specs.Prelude.{None, int_lt, pos, unsigned_abs}
 use Rattle.std.specs.List.{flat_map}
 use Rattle.hep_source.specs.declared.value.Value.{Value}
 use Rattle.hep_source.specs.declared.value.Value.TheVariants.{Int, Truth}
@@ -84,7 +85,21 @@ words_of c =
     c.activations ∷ halted_word c.halted ∷ (counted slot_words c.common ++ counted frame_words c.frames ++ counted stack_words c.processes
     ++ counted (counted item_words) c.records ++ counted fault_words c.faults)
 
--- a machine of a program keeps what these words say
+-- ---- bytes
+
+-- a number in groups of seven bits, the lowest one first, so many groups at most and one more; 128 is added to each but the last one
+abbrev pub groups_of : ℕ → ℕ → List ℕ
+groups_of zero n = n ∷ []
+groups_of (suc more) n = if nat_lt n 128 then n ∷ [] else (n % 128 + 128) ∷ groups_of more (n / 128)
+
+-- a word as bytes: most words are small, and take one
+abbrev pub word_bytes : ℕ → List ℕ
+word_bytes n = groups_of n n
+
+abbrev pub bytes_of : List ℕ → List ℕ
+bytes_of words = flat_map word_bytes words
+
+-- a machine of a program keeps what these bytes say
 abbrev pub IsKeyOf : Units → Snapshot → List ℕ → Type 0
-IsKeyOf program m words =
-    (keys : List (Option ℕ)) × AreHeldKeys m keys × (words ≡ words_of (contents_of m (common_cells program) keys))
+IsKeyOf program m bytes =
+    (keys : List (Option ℕ)) × AreHeldKeys m keys × (bytes ≡ bytes_of (words_of (contents_of m (common_cells program) keys)))

@@ -13,3 +13,4 @@ pub mod FoundStates
 pub mod Successors
 pub mod Searching
 pub mod FoundOutcomes
+pub mod CountedStates

@@ -1,7 +1,7 @@
 -- A search of the states of a program, breadth first: docs/MACHINE.md, "Endings".
 use Rattle.std.specs.Prelude.{◌≡◌, ◌≢◌, ◌⊎◌, ◌<◌, ◌≤◌, ◌+◌, ℕ, Bool, true, false, List, [], ◌∷◌, ◌++◌, length, slice_get, Option, Some}
-use Rattle.std.specs.Prelude.{IsSome, None}
-use Rattle.hep_machine.specs.Words.{AreSteps, Units, is_held, layout_of, opening, run, step}
+use Rattle.std.specs.Prelude.{None}
+use Rattle.hep_machine.specs.Words.{AreSteps, Units, opening, run, step}
 use Rattle.hep_explore.specs.Endings.{IsTerminal}
 use Rattle.hep_state.specs.declared.core_state.CoreState.{CoreState}
 use Rattle.hep_state.specs.Words.{HasNoGap, IsAfter, IsMachineAfter, Snapshot, snapshot_of}
@@ -11,7 +11,8 @@ use Rattle.hep_explore.specs.declared.search.Origin.{Origin}
 use Rattle.hep_explore.specs.declared.search.Search.{Search}
 
 -- what a search knows: the keys of states by number, how each was found, the machines of those that aren't expanded, how many are, those of
--- them in which no process has a step, and the first step that was left out since a frame had no gap, if one was
+-- them in which no process has a step, the first step that was left out since a frame had no gap, if one was, how many states may be found,
+-- and whether a step to one more was left out
 pub record Known : Type 0 where
   pub cells : ℕ
   pub states : List (List ℕ)
@@ -20,6 +21,8 @@ pub record Known : Type 0 where
   pub expanded : ℕ
   pub ended : List ℕ
   pub full : Option Origin
+  pub most : ℕ
+  pub cut : Bool
 
 abbrev pub known_of : Search → Known
 known_of s =
@@ -31,7 +34,13 @@ known_of s =
       expanded = s.expanded;
       ended = s.ended.items;
       full = s.full;
+      most = s.most;
+      cut = s.cut;
     }
+
+-- no step was left out
+abbrev pub IsWhole : Known → Type 0
+IsWhole s = (s.full ≡ None) × (s.cut ≡ false)
 
 -- ---- states by their keys
 
@@ -93,6 +102,8 @@ pub record IsSearch (program : Units) (s : Known) : Type 0 where
   pub origin : (i : ℕ) (o : Origin) → 1 ≤ i → slice_get s.origins i ≡ Some o → IsOrigin program s i o
   pub counted : s.expanded + length s.queue ≡ length s.states
   pub full : (o : Origin) → s.full ≡ Some o → IsFullStep program s o
+  pub few : length s.states ≤ s.most + 1
+  pub cut : s.cut ≡ true → s.most ≤ length s.states
   pub queued : (k : ℕ) (m : CoreState) → slice_get s.queue k ≡ Some m → IsNumbered program s (s.expanded + k) m
 
 -- a state is among those in which no process has a step
@@ -102,7 +113,7 @@ IsEnded s i = (k : ℕ) × (slice_get s.ended k ≡ Some i)
 -- each step of the first states leads to one that was found, unless one was left out; and in just those of them that are told to have ended
 -- no process has a step
 pub record AreExpanded (program : Units) (n : ℕ) (s : Known) : Type 0 where
-  pub closed : s.full ≡ None → (i p : ℕ) (key before : List ℕ) → i < n → slice_get s.states i ≡ Some key
+  pub closed : IsWhole s → (i p : ℕ) (key before : List ℕ) → i < n → slice_get s.states i ≡ Some key
       → IsKept program s.cells before key → step program p (run program before) ≢ None → IsFound program s (before ++ p ∷ [])
   pub ended : (i : ℕ) → IsEnded s i → i < n
   pub terminal : (i : ℕ) (key before : List ℕ) → IsEnded s i → slice_get s.states i ≡ Some key
@@ -113,13 +124,14 @@ pub record AreExpanded (program : Units) (n : ℕ) (s : Known) : Type 0 where
 -- no state is lost, and each has its number
 pub record KeepsStates (old new : Known) : Type 0 where
   pub cells : new.cells ≡ old.cells
+  pub most : new.most ≡ old.most
   pub states : (i : ℕ) (key : List ℕ) → slice_get old.states i ≡ Some key → slice_get new.states i ≡ Some key
 
 -- nor is what is said of states that are expanded
 pub record GoesOn (old new : Known) : Type 0 where
   pub kept : KeepsStates old new
   pub ended : new.ended ≡ old.ended
-  pub whole : new.full ≡ None → old.full ≡ None
+  pub whole : IsWhole new → IsWhole old
 
 -- ---- one step
 
@@ -144,14 +156,14 @@ HasStep program cells m p = (before : List ℕ) → IsMachineAfter program cells
 
 -- the step of process p after all turns that lead to a machine: whether there is one, and if so, where it leads, unless it was left out
 pub record IsTried (program : Units) (m : CoreState) (p : ℕ) (moved : Bool) (s : Known) : Type 0 where
-  pub found : s.full ≡ None → (before : List ℕ) → IsMachineAfter program s.cells before m → step program p (run program before) ≢ None
+  pub found : IsWhole s → (before : List ℕ) → IsMachineAfter program s.cells before m → step program p (run program before) ≢ None
       → IsFound program s (before ++ p ∷ [])
   pub some : moved ≡ true → HasStep program s.cells m p
   pub none : moved ≡ false → (before : List ℕ) → IsMachineAfter program s.cells before m → step program p (run program before) ≡ None
 
 -- the steps of the first processes: whether there is one, and if so, where each leads, unless one was left out
 pub record AreTried (program : Units) (m : CoreState) (n : ℕ) (moved : Bool) (s : Known) : Type 0 where
-  pub found : s.full ≡ None → (p : ℕ) (before : List ℕ) → p ≤ n → IsMachineAfter program s.cells before m
+  pub found : IsWhole s → (p : ℕ) (before : List ℕ) → p ≤ n → IsMachineAfter program s.cells before m
       → step program p (run program before) ≢ None → IsFound program s (before ++ p ∷ [])
   pub some : moved ≡ true → (p : ℕ) × HasStep program s.cells m p
   pub none : moved ≡ false → (p : ℕ) (before : List ℕ) → p ≤ n → IsMachineAfter program s.cells before m
@@ -159,7 +171,7 @@ pub record AreTried (program : Units) (m : CoreState) (n : ℕ) (moved : Bool) (
 
 -- all steps in a machine: whether there is one, and if so, where each leads, unless one was left out
 pub record IsWholeTry (program : Units) (m : CoreState) (moved : Bool) (s : Known) : Type 0 where
-  pub found : s.full ≡ None → (p : ℕ) (before : List ℕ) → IsMachineAfter program s.cells before m
+  pub found : IsWhole s → (p : ℕ) (before : List ℕ) → IsMachineAfter program s.cells before m
       → step program p (run program before) ≢ None → IsFound program s (before ++ p ∷ [])
   pub some : moved ≡ true → (p : ℕ) × HasStep program s.cells m p
   pub none : moved ≡ false → (before : List ℕ) → IsMachineAfter program s.cells before m → IsTerminal program (run program before)
@@ -188,40 +200,18 @@ pub record IsFullPath (program : Units) (cells : ℕ) (choices : List ℕ) : Typ
 
 -- ---- where a search ends
 
--- all states are expanded, or there are more than `most`, or a step was left out and that ends the search
-abbrev pub IsDone : ℕ → Bool → Known → Type 0
-IsDone most until_full s = (s.queue ≡ []) ⊎ ((most < length s.states) ⊎ ((until_full ≡ true) × (s.full ≢ None)))
+-- all states are expanded, or a frame had no gap and that ends the search
+abbrev pub IsDone : Bool → Known → Type 0
+IsDone until_full s = (s.queue ≡ []) ⊎ ((until_full ≡ true) × (s.full ≢ None))
 
--- a search in an arena of so many cells, or of fewer where each frame has its gap, that has expanded all states or found more than `most`
+-- a search of at most so many states in an arena of so many cells, or of fewer where each frame has its gap, that has expanded all states
 pub record IsSearchWithin (program : Units) (cells most : ℕ) (s : Known) : Type 0 where
   pub search : IsSearch program s
   pub expanded : AreExpanded program s.expanded s
   pub within : s.cells ≤ cells
-  pub done : (s.queue ≡ []) ⊎ (most < length s.states)
+  pub done : s.queue ≡ []
   pub full : (s.full ≡ None) ⊎ (s.cells ≡ cells)
-
--- ---- how many states there are
-
--- the state after these choices is kept by one of these keys
-abbrev pub IsAmong : Units → ℕ → List (List ℕ) → List ℕ → Type 0
-IsAmong program cells keys choices = (i : ℕ) × (key : List ℕ) × (slice_get keys i ≡ Some key) × IsKept program cells choices key
-
--- there are so many different states in an arena of `cells` cells, or of fewer: steps lead to each, and where these are told to be all, to
--- no other whose frames have their gaps there
-pub record HaveStates (program : Units) (cells n : ℕ) (complete : Bool) : Type 0 where
-  pub arena : ℕ
-  pub within : arena ≤ cells
-  pub keys : List (List ℕ)
-  pub count : length keys ≡ n
-  pub different : AreDifferentKeys keys
-  pub reached : (i : ℕ) (key : List ℕ) → slice_get keys i ≡ Some key
-      → (choices : List ℕ) × AreSteps program (opening program) choices × IsKept program arena choices key
-  pub all : complete ≡ true → (choices : List ℕ) → AreSteps program (opening program) choices
-      → IsSome (layout_of program arena is_held choices) → IsAmong program arena keys choices
-
--- why a search is cut short: there are more than `most` states, or a run finds no gap for a frame
-abbrev pub IsCutBy : Units → ℕ → ℕ → ℕ → Type 0
-IsCutBy program cells most states = (most < states) ⊎ ((choices : List ℕ) × IsFullPath program cells choices)
+  pub bounded : s.most ≡ most
 
 -- ---- keys
 

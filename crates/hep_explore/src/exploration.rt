@@ -1,10 +1,11 @@
 //! The outcomes of a program, over all choices.
-ghost use Rattle.std.specs.Prelude.{◌≡◌, ◌⊎◌, ◌≤◌, ℕ, List, true, false, IfOk, None, OnOk, length};
+ghost use Rattle.std.specs.Prelude.{◌≡◌, ◌⊎◌, ◌≤◌, ◌+◌, ℕ, List, true, false, IfOk, None, OnOk, length};
 ghost use Rattle.hep_machine.specs.Words.{AreSteps, opening, opening_layout};
 ghost use Rattle.hep_explore.specs.Explored.{IsExplored};
 ghost use Rattle.hep_state.specs.Words.{CanOpen};
 ghost use Rattle.hep_explore.specs.FoundOutcomes.{AreListed, AreOutcomes, IsOutcomeBy, KeepsFound};
-ghost use Rattle.hep_explore.specs.Searching.{AreExpanded, HaveStates, IsCutBy, IsDone, IsFullPath, IsSearch};
+ghost use Rattle.hep_explore.specs.CountedStates.{HaveStates, IsCutBy};
+ghost use Rattle.hep_explore.specs.Searching.{AreExpanded, IsDone, IsFullPath, IsSearch};
 ghost use Rattle.hep_explore.specs.Searching.{IsSearchWithin, known_of};
 
 use crate::found::{Found, add, found_by};
@@ -38,11 +39,11 @@ fn search_in(
     requires { CanOpen image.now cells }
     ensures search { IfOk result (λ s. IsSearch image.now (known_of s)) }
     ensures expanded { IfOk result (λ s. AreExpanded image.now s.expanded (known_of s)) }
-    ensures cells { IfOk result (λ s. s.cells ≡ cells) }
-    ensures done { IfOk result (λ s. IsDone most until_full (known_of s)) }
+    ensures same { IfOk result (λ s. (s.cells ≡ cells) × (s.most ≡ most)) }
+    ensures done { IfOk result (λ s. IsDone until_full (known_of s)) }
 {
-    let mut search = Search::open(alloc, image, cells)?;
-    search.run(image, most, until_full)?;
+    let mut search = Search::open(alloc, image, cells, most)?;
+    search.run(image, until_full)?;
     Ok(search)
 }
 
@@ -142,7 +143,8 @@ fn outcomes_of(
     requires cells { (1 ≤ cells) × (cells ≤ 16777216) }
     requires within { IsSearchWithin image.now cells most (known_of search.now) }
     ensures explored { IfOk result (λ e. IsExplored image.now cells e.found.items e.complete) }
-    ensures states { IfOk result (λ e. HaveStates image.now cells e.states e.complete) }
+    ensures states { IfOk result (λ e. HaveStates image.now cells e.states e.found.items e.complete) }
+    ensures few { IfOk result (λ e. e.states ≤ most + 1) }
     ensures cut { IfOk result (λ e. e.complete ≡ false → IsCutBy image.now cells most e.states) }
 {
     image.is_runnable();
@@ -163,7 +165,8 @@ fn full_exploration(alloc: Global, image: &Image, cells: u32) -> Result<Explorat
     requires cells { (1 ≤ cells) × (cells ≤ 16777216) }
     requires full { opening_layout image.now cells ≡ None }
     ensures explored { IfOk result (λ e. IsExplored image.now cells e.found.items e.complete) }
-    ensures states { IfOk result (λ e. HaveStates image.now cells e.states e.complete) }
+    ensures states { IfOk result (λ e. HaveStates image.now cells e.states e.found.items e.complete) }
+    ensures none { IfOk result (λ e. e.states ≡ 0) }
     ensures complete { IfOk result (λ e. e.complete ≡ true) }
 {
     let mut found = Vec::new(alloc);
@@ -177,7 +180,8 @@ fn full_exploration(alloc: Global, image: &Image, cells: u32) -> Result<Explorat
 
 /// All outcomes of a program in an arena of `cells` cells, 1 to 16,777,216, as far as `most` states show them.
 ///
-/// The search is cut short only where there are more states, or a frame has no gap.
+/// The outcome of each state in which no process has a step is listed. The search is cut short only where it found `most` states, or a
+/// frame has no gap.
 ///
 /// # Errors
 ///
@@ -190,7 +194,8 @@ pub fn explore(
 ) -> Result<Exploration, AllocError>
     requires cells { (1 ≤ cells) × (cells ≤ 16777216) }
     ensures explored { IfOk result (λ e. IsExplored image.now cells e.found.items e.complete) }
-    ensures states { IfOk result (λ e. HaveStates image.now cells e.states e.complete) }
+    ensures states { IfOk result (λ e. HaveStates image.now cells e.states e.found.items e.complete) }
+    ensures few { IfOk result (λ e. e.states ≤ most + 1) }
     ensures cut { IfOk result (λ e. e.complete ≡ false → IsCutBy image.now cells most e.states) }
 {
     if !fits(image, cells) {

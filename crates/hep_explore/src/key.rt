@@ -1,8 +1,9 @@
-//! The key of a machine: what it keeps of a state, as words.
-ghost use Rattle.std.specs.Prelude.{◌≡◌, IfOk};
+//! The key of a machine: what it keeps of a state, as bytes.
+ghost use Rattle.std.specs.Prelude.{◌≡◌, ◌++◌, IfOk, OnOk};
 ghost use Rattle.hep_machine.specs.Words.{Units};
 ghost use Rattle.hep_state.specs.Words.{IsReached, snapshot_of};
 ghost use Rattle.hep_explore.specs.KeyParts.{AreHeldNodes};
+ghost use Rattle.hep_explore.specs.Keys as spec;
 ghost use Rattle.hep_explore.specs.Keys.{IsKeyOf};
 
 use crate::key_parts::{append_cells, append_faults, append_frames, append_records};
@@ -12,11 +13,11 @@ use hep_state_text::held_keys;
 use hep_views::CoreState;
 use std::alloc::{AllocError, Global};
 
-/// What a machine keeps, as words: two machines of a program with the same words keep the same states. The keys of nodes and the cells of
+/// What a machine keeps, as bytes: two machines of a program with the same bytes keep the same states. The keys of nodes and the cells of
 /// holes are left out.
 #[derive(Debug, PartialEq, Eq, Hash, Drop)]
 pub struct Key {
-    pub words: Vec<u64>,
+    pub bytes: Vec<u8>,
 }
 
 // The keys of the nodes of all held activations. Fails only where memory was refused.
@@ -34,6 +35,30 @@ fn held_nodes(alloc: Global, machine: &CoreState) -> Result<Vec<usize>, AllocErr
     Ok(nodes)
 }
 
+// Appends a word in groups of seven bits.
+fn append_word(bytes: &mut Vec<u8>, word: u64) -> Result<(), AllocError>
+    ensures { OnOk result (bytes.new.items ≡ bytes.old.items ++ spec.word_bytes word) }
+{
+    let mut left = word;
+    while left >= 128 {
+        bytes.push((left % 128) as u8 + 128)?;
+        left /= 128;
+    }
+    bytes.push(left as u8)?;
+    Ok(())
+}
+
+// Words as bytes, which take no more memory than they need.
+fn bytes_of(alloc: Global, words: &[u64]) -> Result<Vec<u8>, AllocError>
+    ensures { IfOk result (λ bytes. bytes.items ≡ spec.bytes_of words.now) }
+{
+    let mut bytes = Vec::new(alloc);
+    for word in words {
+        append_word(&mut bytes, *word)?;
+    }
+    Vec::from_slice(alloc, &bytes)
+}
+
 /// The key of a machine.
 ///
 /// # Errors
@@ -41,7 +66,7 @@ fn held_nodes(alloc: Global, machine: &CoreState) -> Result<Vec<usize>, AllocErr
 /// Only where memory was refused.
 pub fn key_of(alloc: Global, image: &Image, machine: &CoreState) -> Result<Key, AllocError>
     requires { IsReached image.now machine.now }
-    ensures { IfOk result (λ key. IsKeyOf image.now (snapshot_of machine.now) key.words.items) }
+    ensures { IfOk result (λ key. IsKeyOf image.now (snapshot_of machine.now) key.bytes.items) }
 {
     let nodes = held_nodes(alloc, machine)?;
     let mut words = Vec::new(alloc);
@@ -51,5 +76,7 @@ pub fn key_of(alloc: Global, image: &Image, machine: &CoreState) -> Result<Key, 
     append_processes(&mut words, machine)?;
     append_records(&mut words, &machine.records)?;
     append_faults(&mut words, &machine.faults)?;
-    Ok(Key { words })
+    Ok(Key {
+        bytes: bytes_of(alloc, &words)?,
+    })
 }

@@ -10,8 +10,8 @@ use hep_views::laws::views_are_of_states;
 
 /// Two machines of a program with the same key keep the same states.
 pub fn machines_with_equal_keys_keep_the_same_states()
-    ensures { (program : Units) (cells : ℕ) (before turns words : List ℕ) (a b : Snapshot) → IsKeyOf program a words
-        → IsKeyOf program b words → IsAfter program cells before a → IsAfter program cells turns b → IsAfter program cells before b }
+    ensures { (program : Units) (cells : ℕ) (before turns key : List ℕ) (a b : Snapshot) → IsKeyOf program a key
+        → IsKeyOf program b key → IsAfter program cells before a → IsAfter program cells turns b → IsAfter program cells before b }
 {}
 
 /// The states of an accepted program that a machine keeps, whichever turns led to it, end in the same way.

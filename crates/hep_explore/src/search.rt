@@ -3,7 +3,7 @@ ghost use Rattle.std.specs.Prelude.{◌≡◌, ◌≢◌, ◌⊎◌, ◌<◌, �
 ghost use Rattle.hep_machine.specs.Words.{Units};
 ghost use Rattle.hep_state.specs.Words.{CanOpen};
 ghost use Rattle.hep_explore.specs.Searching.{AreExpanded, AreTried, GoesOn, HasKey, IsDone, IsFullPath, IsFullStep, IsNumbered, IsPathTo};
-ghost use Rattle.hep_explore.specs.Searching.{IsSearch, IsTried, IsVisit, IsWholeTry, known_of};
+ghost use Rattle.hep_explore.specs.Searching.{IsSearch, IsTried, IsVisit, IsWhole, IsWholeTry, KeepsStates, known_of};
 
 use crate::key::key_of;
 use crate::key_laws::machines_with_equal_keys_keep_the_same_states;
@@ -37,6 +37,10 @@ pub struct Search {
     ended: Vec<usize>,
     /// The first step that makes an activation for whose frame there is no gap.
     full: Option<Origin>,
+    /// How many states may be found; the opening always is.
+    most: usize,
+    /// Whether a step to one more was left out.
+    cut: bool,
 }
 
 // Written out, so that a caller's proof has one call of it at each exit.
@@ -52,22 +56,24 @@ impl Drop for Search {
             expanded,
             ended,
             full,
+            most,
+            cut,
         } = self;
     }
 }
 
 impl Search {
-    /// The search of an image's states in an arena of `cells` cells, with the opening alone.
+    /// The search of at most `most` of an image's states in an arena of `cells` cells, with the opening alone.
     ///
     /// # Errors
     ///
     /// Only where memory was refused.
-    pub fn open(alloc: Global, image: &Image, cells: u32) -> Result<Search, AllocError>
+    pub fn open(alloc: Global, image: &Image, cells: u32, most: usize) -> Result<Search, AllocError>
         requires { CanOpen image.now cells }
         ensures search { IfOk result (λ s. IsSearch image.now (known_of s)) }
         ensures expanded { IfOk result (λ s. AreExpanded image.now 0 (known_of s)) }
         ensures begun { IfOk result (λ s. s.expanded ≡ 0) }
-        ensures cells { IfOk result (λ s. s.cells ≡ cells) }
+        ensures same { IfOk result (λ s. (s.cells ≡ cells) × (s.most ≡ most)) }
     {
         let machine = CoreState::open(alloc, image, cells)?;
         let mut search = Search {
@@ -80,6 +86,8 @@ impl Search {
             expanded: 0,
             ended: Vec::new(alloc),
             full: None,
+            most,
+            cut: false,
         };
         let _ = search.states.insert(key_of(alloc, image, &machine)?)?;
         search.origins.push(Origin {
@@ -90,16 +98,20 @@ impl Search {
         Ok(search)
     }
 
-    // Finds the state of a machine, to which a step has led.
+    // Finds the state of a machine, to which a step has led, unless as many as may be were found.
     fn visit(&mut self, image: &Image, machine: CoreState, origin: Origin) -> Result<(), AllocError>
         requires search { IsSearch image.now (known_of self.old) }
         requires visit { IsVisit image.now (known_of self.old) machine origin }
         ensures search { OnOk result (IsSearch image.now (known_of self.new)) }
         ensures goes_on { OnOk result (GoesOn (known_of self.old) (known_of self.new)) }
         ensures same { OnOk result (self.new.expanded ≡ self.old.expanded) }
-        ensures found { OnOk result (HasKey image.now (known_of self.new) machine) }
+        ensures found { OnOk result (IsWhole (known_of self.new) → HasKey image.now (known_of self.new) machine) }
     {
         let key = key_of(self.alloc, image, &machine)?;
+        if self.states.len() >= self.most {
+            self.cut |= !self.states.contains(&key);
+            return Ok(());
+        }
         let found = self.states.insert(key)?;
         if !found.1 {
             return Ok(());
@@ -209,7 +221,7 @@ impl Search {
         requires numbered { IsNumbered image.now (known_of self.old) from machine.now }
         ensures search { OnOk result (IsSearch image.now (known_of self.new)) }
         ensures expanded { OnOk result (AreExpanded image.now (from + 1) (known_of self.new)) }
-        ensures same { OnOk result ((self.new.cells ≡ self.old.cells) × (self.new.expanded ≡ self.old.expanded)) }
+        ensures same { OnOk result (KeepsStates (known_of self.old) (known_of self.new) × (self.new.expanded ≡ self.old.expanded)) }
     {
         machines_with_equal_keys_keep_the_same_states();
         activations_are_few();
@@ -239,20 +251,20 @@ impl Search {
         Some((from, machine))
     }
 
-    /// Expands states until all are, or there are more than `most`; or, if `until_full`, a frame has no gap.
+    /// Expands states until all are, or, if `until_full`, a frame has no gap.
     ///
     /// # Errors
     ///
     /// Only where memory was refused.
-    pub fn run(&mut self, image: &Image, most: usize, until_full: bool) -> Result<(), AllocError>
+    pub fn run(&mut self, image: &Image, until_full: bool) -> Result<(), AllocError>
         requires search { IsSearch image.now (known_of self.old) }
         requires expanded { AreExpanded image.now self.old.expanded (known_of self.old) }
         ensures search { OnOk result (IsSearch image.now (known_of self.new)) }
         ensures expanded { OnOk result (AreExpanded image.now self.new.expanded (known_of self.new)) }
-        ensures cells { OnOk result (self.new.cells ≡ self.old.cells) }
-        ensures done { OnOk result (IsDone most until_full (known_of self.new)) }
+        ensures same { OnOk result ((self.new.cells ≡ self.old.cells) × (self.new.most ≡ self.old.most)) }
+        ensures done { OnOk result (IsDone until_full (known_of self.new)) }
     {
-        while self.states.len() <= most && !(until_full && self.full.is_some()) {
+        while !(until_full && self.full.is_some()) {
             let Some((from, machine)) = self.next() else {
                 return Ok(());
             };
@@ -261,12 +273,12 @@ impl Search {
         Ok(())
     }
 
-    /// Whether each step of each state leads to one of them.
+    /// Whether no step was left out.
     pub fn is_complete(&self) -> bool
-        ensures whole { result ≡ true → (self.now.full ≡ None) × (self.now.queue.items ≡ []) }
-        ensures partial { result ≡ false → (self.now.full ≢ None) ⊎ (self.now.queue.items ≢ []) }
+        ensures whole { result ≡ true → IsWhole (known_of self.now) }
+        ensures partial { result ≡ false → (self.now.full ≢ None) ⊎ (self.now.cut ≡ true) }
     {
-        self.full.is_none() && self.queue.is_empty()
+        self.full.is_none() && !self.cut
     }
 
     /// Whether a frame had no gap.

@@ -7,7 +7,7 @@ use Rattle.hep_outcome.specs.declared.options.Options.{Options}
 use Rattle.hep_outcome.specs.declared.status.Status.{Status}
 use Rattle.hep_outcome.specs.declared.status.Status.TheVariants.{Done, StepLimit}
 use Rattle.hep_explore.specs.Explored.{Found, IsExplored, explored_text}
-use Rattle.hep_explore.specs.Searching.{HaveStates, IsCutBy}
+use Rattle.hep_explore.specs.CountedStates.{HaveStates, IsCutBy}
 use Rattle.hep_explore.specs.declared.exploration.Exploration.{Exploration}
 use Rattle.hep_run.specs.Outcome.{IsOutcome, RunsTo}
 use Rattle.hep_inspection.specs.declared.explore_options.ExploreOptions.{ExploreOptions}
@@ -26,7 +26,7 @@ outcome_of_exploration e =
 pub record IsWrittenOf (options : ExploreOptions) (found : List Found) (program : Units) (o : Outcome) : Type 0 where
   pub exploration : Exploration
   pub explored : IsExplored program options.arena exploration.found.items exploration.complete
-  pub states : HaveStates program options.arena exploration.states exploration.complete
+  pub states : HaveStates program options.arena exploration.states exploration.found.items exploration.complete
   pub cut : exploration.complete ≡ false → IsCutBy program options.arena options.states exploration.states
   pub found_is : found ≡ exploration.found.items
   pub outcome : o ≡ outcome_of_exploration exploration

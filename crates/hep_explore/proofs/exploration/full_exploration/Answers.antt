@@ -24,6 +24,7 @@ returns c =
     record {
       explored = is_explored program cells all true is.outcomes (
           λ yes o possible. full_is_listed program cells c.requires.full all is.outcomes (omega arith) o possible);
-      states = no_states program cells c.requires.full true;
+      states = no_states program cells c.requires.full all true;
+      none = refl;
       complete = refl;
     }

@@ -1,6 +1,7 @@
-use Rattle.std.proofs.Common.{length, subst, sym}
+use Rattle.std.proofs.Common.{arith, length, subst, sym}
 use Rattle.hep_explore.specs.FoundOutcomes.{AreOutcomes}
-use Rattle.hep_explore.specs.Searching.{HaveStates, IsCutBy, known_of}
+use Rattle.hep_explore.specs.CountedStates.{HaveStates, IsCutBy}
+use Rattle.hep_explore.specs.Searching.{known_of}
 use Rattle.hep_explore.proofs.CountedStates.{search_states}
 use Rattle.hep_explore.proofs.ListedOutcomes.{all_on, no_outcomes}
 use Rattle.hep_explore.proofs.NoOther.{EndAlike, search_cut, search_explored}
@@ -35,8 +36,9 @@ returns c =
     record {
       explored = search_explored program cells most s within (c.machines_with_equal_keys_keep_the_same_states.ensures program) end_alike
           c.list_full.new.found.items full.outcomes listed c.is_complete.result c.is_complete.ensures.whole;
-      states = subst (λ n. HaveStates program cells n c.is_complete.result) (sym c.len.ensures) (
-          search_states program cells most s within c.is_complete.result c.is_complete.ensures.whole);
+      states = subst (λ n. HaveStates program cells n c.list_full.new.found.items c.is_complete.result) (sym c.len.ensures) (
+          search_states program cells most s within c.list_full.new.found.items listed c.is_complete.result c.is_complete.ensures.whole);
+      few = let few = within.search.few in omega (arith, within.bounded, c.len.ensures);
       cut = λ partial.
           subst (IsCutBy program cells most) (sym c.len.ensures) (
           search_cut program cells most s within full.full (c.is_complete.ensures.partial partial));

@@ -14,9 +14,10 @@ returns-then-not-is_full c =
     record {
       search = is.search;
       expanded = is.expanded;
-      within = omega (arith, is.cells);
-      done = done_by c.args.most true s (λ yes. none) is.done;
+      within = omega (arith, is.same.0);
+      done = done_by true s (λ yes. none) is.done;
       full = inl none;
+      bounded = is.same.1;
     }
 
 pub returns : goal.returns
@@ -26,7 +27,8 @@ returns c =
     record {
       search = is.search;
       expanded = is.expanded;
-      within = omega (arith, is.cells);
-      done = done_by c.args.most false s (λ yes. absurd (true≢false (sym yes))) is.done;
-      full = inr is.cells;
+      within = omega (arith, is.same.0);
+      done = done_by false s (λ yes. absurd (true≢false (sym yes))) is.done;
+      full = inr is.same.0;
+      bounded = is.same.1;
     }

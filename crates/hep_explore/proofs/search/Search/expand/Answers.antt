@@ -4,7 +4,7 @@ use Rattle.hep_state.proofs.ProcessNumbers.{length-stacks}
 use Rattle.hep_state.specs.Words.{snapshot_of}
 use Rattle.hep_explore.specs.Searching.{AreExpanded, IsWholeTry, known_of}
 use Rattle.hep_explore.proofs.Paths.{reached_soon}
-use Rattle.hep_explore.proofs.SearchedStates.{ended_is_search, expanded_on, numbered_on}
+use Rattle.hep_explore.proofs.SearchedStates.{expanded_on, numbered_on, told_is_search}
 use Rattle.hep_explore.proofs.TriedSteps.{expanded_no, expanded_yes}
 use Rattle.hep_explore.proofs.search.Search.expand.Goals as goal
 
@@ -37,7 +37,7 @@ returns-then-moved c =
       search = c.in_ok-moved.ensures.search;
       expanded = expanded_yes program alike new c.args.from m numbered still (
           subst (λ b. IsWholeTry program m b new) c.if-moved.true c.in_ok-moved.ensures.tried);
-      same = (on.kept.cells, c.in_ok-moved.ensures.same);
+      same = (on.kept, c.in_ok-moved.ensures.same);
     }
 
 pub returns : goal.returns
@@ -53,8 +53,8 @@ returns c =
     let alike = c.machines_with_equal_keys_keep_the_same_states.ensures program in
     let tried = subst (λ b. IsWholeTry program m b new) c.if-moved.false c.in_ok-moved.ensures.tried in
     record {
-      search = ended_is_search program new c.push.new.self.items c.in_ok-moved.ensures.search;
+      search = told_is_search program new c.push.new.self.items new.cut c.in_ok-moved.ensures.search c.in_ok-moved.ensures.search.cut;
       expanded = subst (λ es. AreExpanded program (c.args.from + 1) (record new { ended = es })) (sym c.in_ok-push.ensures.items) (
           expanded_no program alike new c.args.from m numbered still tried);
-      same = (on.kept.cells, c.in_ok-moved.ensures.same);
+      same = (record { cells = on.kept.cells; most = on.kept.most; states = on.kept.states }, c.in_ok-moved.ensures.same);
     }

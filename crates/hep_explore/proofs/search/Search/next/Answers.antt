@@ -18,7 +18,7 @@ pub returns-in_err-machine-clause-none : goal.returns-in_err-machine-clause-none
 returns-in_err-machine-clause-none c =
     let old = known_of c.args.self.now in
     let new : Known = record old { queue = c.pop_front.new.self.items } in
-    if_none c.from_residual.result (same_known new old refl refl refl (sym c.in_err-machine.ensures.items) refl refl refl)
+    if_none c.from_residual.result (same_known new old refl refl refl (sym c.in_err-machine.ensures.items) refl refl refl refl refl)
 
 pub returns : goal.returns
 returns c =

@@ -24,9 +24,13 @@ loop-self-preserved c =
     let program = c.args.image.now in
     let new = known_of c.expand.new.self in
     let one = c.in-Some.ensures.counted in
+    let kept = c.in_ok-expand.ensures.same.0 in
     let count : c.in-Some.from + 1 ≡ new.expanded = omega (arith, one.0, one.1, c.in_ok-expand.ensures.same.1) in
     record {
       search = c.in_ok-expand.ensures.search;
       expanded = subst (λ n. AreExpanded program n new) count c.in_ok-expand.ensures.expanded;
-      cells = c.in_ok-expand.ensures.same.0 ∙ (c.next.ensures.goes_on.kept.cells ∙ c.loop-self.invariant.cells);
+      same = (
+        kept.cells ∙ (c.next.ensures.goes_on.kept.cells ∙ c.loop-self.invariant.same.0),
+        kept.most ∙ (c.next.ensures.goes_on.kept.most ∙ c.loop-self.invariant.same.1),
+      );
     }

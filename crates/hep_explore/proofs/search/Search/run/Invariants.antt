@@ -6,8 +6,8 @@ abbrev pub invariant-loop-self : goal.invariant-loop-self
 invariant-loop-self l = record {
   search : IsSearch l.fn.image (known_of l.self);
   expanded : AreExpanded l.fn.image l.self.expanded (known_of l.self);
-  cells : l.self.cells ≡ l.fn.self.cells;
+  same : (l.self.cells ≡ l.fn.self.cells) × (l.self.most ≡ l.fn.self.most);
 }
 
 abbrev pub decreases-loop-self : goal.decreases-loop-self
-decreases-loop-self l = l.fn.most + 1 - l.self.expanded
+decreases-loop-self l = l.fn.self.most + 1 - l.self.expanded

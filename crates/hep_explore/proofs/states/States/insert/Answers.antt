@@ -15,7 +15,7 @@ returns-clause-added c = λ new.
     let view = c.self.view_is in
     let is-new = sym new ∙ ensures.added in (
       ensures.index ∙ index-added old after c.args.key is-new ensures.keys ∙ ap length view,
-      words-added old after c.args.key is-new ensures.keys ∙ ap (λ ws. ws ++ c.args.key.words.items ∷ []) view,
+      words-added old after c.args.key is-new ensures.keys ∙ ap (λ ws. ws ++ c.args.key.bytes.items ∷ []) view,
     )
 
 pub returns-clause-unseen : goal.returns-clause-unseen
