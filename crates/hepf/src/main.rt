@@ -1365,8 +1365,15 @@ fn done<H: Threads + Wait + Sync>(
             states,
             arena,
             keep,
+            expect_one,
+            expect_status,
         } => {
-            let options = ExploreOptions { arena, states };
+            let options = ExploreOptions {
+                arena,
+                states,
+                expect_one,
+                expect_status,
+            };
             let asked = CommandRequest {
                 options: &options,
                 long,
