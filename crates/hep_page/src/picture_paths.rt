@@ -8,8 +8,8 @@ ghost use Rattle.hep_page.specs.PicturePaths as words;
 use crate::lane_spot::LaneSpot;
 use crate::picture_scale::PictureScale;
 use crate::picture_shape::{KINDS, append_class, append_mark_shape};
-use hep_output::append_number;
 use hep_formats::{TurnKind, TurnMark, rank};
+use hep_output::append_number;
 use std::alloc::AllocError;
 
 /// A number so many times, and another one more.

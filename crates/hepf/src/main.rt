@@ -781,8 +781,7 @@ fn explore_file(
     if explored.status == 8 {
         return Ok(8);
     }
-    let mut number = 1;
-    for found in explored.found.as_slice() {
+    for (index, found) in explored.found.as_slice().iter().enumerate() {
         let Ok(choices) = found.copied_choices(rt.alloc()) else {
             return Err(say_no_memory(rt));
         };
@@ -791,12 +790,11 @@ fn explore_file(
             steps: MOST_STEPS,
             choices,
         };
-        let path = kept_path(rt, file, prefix, number)?;
+        let path = kept_path(rt, file, prefix, index as u64 + 1)?;
         let status = keep_chosen(rt, &source, &options, path.as_str(), long)?;
         if status != 0 {
             return Err(status);
         }
-        number += 1;
     }
     Ok(explored.status)
 }

@@ -19,5 +19,8 @@ returns-in-Ok g c =
     let options = c.args.asked.now.options.now in
     let found = c.in-Ok.found.items in
     let source = c.args.source.now in
-    left_alone c.deliver.result _ _ _ _ (IsExploredOutcome long options found source) (no_history long options found source)
-    (inr (outcome_of c.in-Ok.transcript, c.in-Ok.ensures, c.deliver.ensures))
+    record {
+      left =
+          left_alone c.deliver.result _ _ _ _ (IsExploredOutcome long options found source) (no_history long options found source)
+          (inr (outcome_of c.in-Ok.transcript, c.in-Ok.ensures, c.deliver.ensures));
+    }

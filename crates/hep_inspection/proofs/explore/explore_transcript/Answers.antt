@@ -33,7 +33,7 @@ returns-in_ok-transcript-in-Ok c =
       },
     )
 
-pub returns : goal.returns
-returns c =
+pub returns-in_ok-fault_transcript-in-Err : goal.returns-in_ok-fault_transcript-in-Err
+returns-in_ok-fault_transcript-in-Err c =
     unsearched c.args.asked.now.long c.args.asked.now.options.now c.new.result.items c.args.source.now c.in-Err.fault
     (outcome_of c.in_ok-fault_transcript-in-Err.field-0) c.in-Err.ensures.refused c.in_ok-fault_transcript-in-Err.ensures.made
