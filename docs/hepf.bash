@@ -68,7 +68,7 @@ _hepf() {
         list) options="--color --long --help" ;;
         run) options="--arena --steps --workers --seed --choices --follow --history --color --long --help" ;;
         sample) options="--runs --seed --arena --steps --keep --format --progress --color --long --help" ;;
-        explore) options="--states --arena --expect-one --expect-status --keep --color --long --help" ;;
+        explore) options="--states --arena --expect-one --expect-status --keep --progress --color --long --help" ;;
         replay) options="--arena --color --long --help" ;;
         page) options="--from --to --choices --seed --arena --steps --long --help" ;;
         picture) options="--choices --seed --arena --steps --long --help" ;;

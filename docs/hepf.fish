@@ -47,6 +47,7 @@ for command in hepf hepf-unproved
     complete -c $command -n '__fish_seen_subcommand_from explore' -l expect-one -d 'status 10 where there are several outcomes, or none'
     complete -c $command -n '__fish_seen_subcommand_from explore' -l expect-status -x -d 'status 10 where an outcome has another one'
     complete -c $command -n '__fish_seen_subcommand_from sample' -l progress -d 'say how many runs were made'
+    complete -c $command -n '__fish_seen_subcommand_from explore' -l progress -d 'say how many states were found'
     complete -c $command -n '__fish_seen_subcommand_from run' -l workers -x -d 'threads, 1 to 16'
     complete -c $command -n '__fish_seen_subcommand_from run state trace page picture why races cover diff' -l choices -r -F -d 'processes that are chosen first'
     complete -c $command -n '__fish_seen_subcommand_from run' -l follow -r -F -d 'history whose steps are made first'

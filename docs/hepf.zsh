@@ -55,7 +55,7 @@ _hepf_words() {
         explore)
             _arguments '--states=[states at most]:states:' '--arena=[cells of storage]:cells:' '--expect-one[status 10 where there are several outcomes, or none]' \
                 '--expect-status=[status 10 where an outcome has another one]:status:' '--keep=[how the files of histories begin]:prefix:_files' \
-                '--color=[when lines have colors]:when:((auto\:terminals always\:always never\:never))' '--long[say more of what went wrong]' '--help[show help]' '1:source:_files -g "*.(f|for|hep)"'
+                '--progress[say how many states were found]' '--color=[when lines have colors]:when:((auto\:terminals always\:always never\:never))' '--long[say more of what went wrong]' '--help[show help]' '1:source:_files -g "*.(f|for|hep)"'
             ;;
         replay)
             _arguments '--arena=[cells of storage]:cells:' '--color=[when lines have colors]:when:((auto\:terminals always\:always never\:never))' '--long[say more of what went wrong]' '--help[show help]' '1:source:_files -g "*.(f|for|hep)"' \

@@ -79,13 +79,13 @@ sample_with_all : asked (codes "hepf" ∷ codes "sample" ∷ codes "--runs" ∷ 
 unfolding asked clap_on_literals
 sample_with_all = refl
 
-explore_with_defaults : asked (codes "hepf" ∷ codes "explore" ∷ codes "a.f" ∷ []) ≡ Some (explore (codes "a.f") 1000000 65536 None false None)
+explore_with_defaults : asked (codes "hepf" ∷ codes "explore" ∷ codes "a.f" ∷ []) ≡ Some (explore (codes "a.f") 1000000 65536 None false false None)
 unfolding asked clap_on_literals
 explore_with_defaults = refl
 
 explore_with_all : asked (codes "hepf" ∷ codes "explore" ∷ codes "--states" ∷ codes "16777216" ∷ codes "a.f" ∷ codes "--arena=9" ∷ codes "--keep=k"
-    ∷ codes "--expect-status" ∷ codes "0" ∷ codes "--expect-one" ∷ [])
-    ≡ Some (explore (codes "a.f") 16777216 9 (Some (codes "k")) true (Some 0))
+    ∷ codes "--expect-status" ∷ codes "0" ∷ codes "--expect-one" ∷ codes "--progress" ∷ [])
+    ≡ Some (explore (codes "a.f") 16777216 9 (Some (codes "k")) true true (Some 0))
 unfolding asked clap_on_literals
 explore_with_all = refl
 

@@ -121,7 +121,7 @@ expect_status_option = record (file_option (codes "expect-status")) { parser = S
 abbrev pub explore_command : App
 explore_command =
     command_with (codes "explore") (source_word ∷ states_option ∷ arena_option ∷ expect_one_flag ∷ expect_status_option ∷ keep_option
-    ∷ color_option ∷ long_flag ∷ [])
+    ∷ progress_flag ∷ color_option ∷ long_flag ∷ [])
 
 abbrev pub replay_command : App
 replay_command = command_with (codes "replay") (source_word ∷ history_word ∷ arena_option ∷ color_option ∷ long_flag ∷ [])

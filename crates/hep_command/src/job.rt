@@ -152,6 +152,8 @@ pub enum Job<'a> {
         arena: u32,
         /// The prefix of the files to which a history of each outcome is written.
         keep: Option<&'a str>,
+        /// Whether it is said from the first state on how many have been found.
+        progress: bool,
         /// Whether just one outcome is expected.
         expect_one: bool,
         /// The status that each outcome is expected to have, 0 to 9.

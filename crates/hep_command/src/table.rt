@@ -106,6 +106,14 @@ pub(crate) const LONG: WordRow = WordRow {
     help: "Say more of what went wrong: which file, line or name",
 };
 
+// How many states a search has found.
+const SEARCH_PROGRESS: WordRow = WordRow {
+    id: "progress",
+    kind: WordKind::Flag,
+    value: "",
+    help: "Say on standard error how many states were found",
+};
+
 // How many runs of a sample have been made.
 const PROGRESS: WordRow = WordRow {
     id: "progress",
@@ -475,6 +483,7 @@ pub(crate) const RUNNING: [CommandRow; 5] = [
             EXPECT_ONE,
             EXPECT_STATUS,
             EXPLORED,
+            SEARCH_PROGRESS,
             COLOR,
             LONG,
         ],

@@ -244,6 +244,7 @@ fn explore_job<'a>(found: &ArgMatches<'a>) -> Option<Job<'a>>
         states: states_of(found)?,
         arena: arena_of(found)?,
         keep: word_of(found, "keep"),
+        progress: is_given(found, "progress"),
         expect_one: is_given(found, "expect-one"),
         expect_status: expected_status_of(found)?,
     })

@@ -7,9 +7,9 @@ ghost use Rattle.hep_run.specs.Delivery.{LeavesOneOf, SaysLines, status_alone};
 ghost use Rattle.hep_inspection.specs.Explorations.{HasChosenHistory, IsExploredOutcome, outcome_of_exploration};
 ghost use Rattle.hep_inspection.specs.Explorations as spec;
 
-use crate::explore_options::ExploreOptions;
+use crate::explore_options::{ExploreOptions, ExploreRequest};
 use hep_base::append_number;
-use hep_explore::{Exploration, Found, explore, text_of};
+use hep_explore::{Exploration, Found, SearchObserver, explore, text_of};
 use hep_history::History;
 use hep_outcome::{Lines, Options, Status, write_text};
 use hep_run::CommandRequest;
@@ -127,10 +127,10 @@ fn transcript_of_exploration(
 }
 
 // All that a search of a source writes, before a byte of it is written, and the outcomes that it found.
-fn explore_transcript(
+fn explore_transcript<O: SearchObserver>(
     alloc: Global,
     source: &[u8],
-    asked: &CommandRequest<'_, ExploreOptions>,
+    asked: &ExploreRequest<'_, O>,
 ) -> Result<(Transcript, Vec<Found>), AllocError>
     ensures { IfOk result (λ made. IsExploredOutcome asked.now.long asked.now.options.now made.1.items source.now (outcome_of made.0)) }
 {
@@ -141,6 +141,7 @@ fn explore_transcript(
                 &image,
                 asked.options.arena,
                 asked.options.states as usize,
+                asked.observer,
             )?;
             let transcript = transcript_of_exploration(alloc, asked.options, &explored)?;
             Ok((transcript, explored.found))
@@ -151,10 +152,12 @@ fn explore_transcript(
 
 /// Searches the states of a source, which has been read, and writes its outcomes, with choices that lead to each, whether others may be
 /// possible, and what isn't as the options expect; or to `messages` why it isn't run, with notes where they are asked for.
-pub fn explore_bytes<W: Write, E: Write>(
+///
+/// Whenever the steps of one more state have been made the observer is told how many states have been found.
+pub fn explore_bytes<W: Write, E: Write, O: SearchObserver>(
     alloc: Global,
     source: &[u8],
-    asked: &CommandRequest<'_, ExploreOptions>,
+    asked: &ExploreRequest<'_, O>,
     output: &mut W,
     messages: &mut E,
 ) -> Explored

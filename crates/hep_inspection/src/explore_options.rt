@@ -1,4 +1,4 @@
-//! The options of `explore`.
+//! The options of `explore`, and who is told of its states.
 ghost use Rattle.std.specs.Prelude.{◌≤◌};
 
 /// The options of a search.
@@ -14,4 +14,12 @@ pub struct ExploreOptions {
     pub expect_status: Option<u8>,
     ghost some: { 1 ≤ arena },
     ghost few: { arena ≤ 16777216 },
+}
+
+/// The options of a search, whether notes are written besides the lines of the standard form, and who is told of its states.
+#[derive(Drop)]
+pub struct ExploreRequest<'a, O> {
+    pub options: &'a ExploreOptions,
+    pub long: bool,
+    pub observer: &'a O,
 }
