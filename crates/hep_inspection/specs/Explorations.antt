@@ -64,7 +64,7 @@ outcome_of_exploration options e =
     }
 
 -- these outcomes were found, and are written, with the number of states and with what isn't as expected; the search was cut short only
--- where there were more of them than options allow, or a run found no gap for a frame
+-- where as many states were found as options allow, or a run found no gap for a frame
 pub record IsWrittenOf (options : ExploreOptions) (found : List Found) (program : Units) (o : Outcome) : Type 0 where
   pub exploration : Exploration
   pub explored : IsExplored program options.arena exploration.found.items exploration.complete
