@@ -33,7 +33,7 @@ words-there keys i key there is same =
     ∙ ap (λ ws. Some ws) (sym (same_text key.words.items there.words.items (sym same)))
 
 -- where no key is the same, none has its words
-unseen-words : (keys : List Key) (key : Key) → list_any (same_key key) keys ≡ false → (i : ℕ)
+pub unseen-words : (keys : List Key) (key : Key) → list_any (same_key key) keys ≡ false → (i : ℕ)
     → slice_get (words_in keys) i ≢ Some key.words.items
 unseen-words [] key none i here = none-some key.words.items here
 unseen-words (k ∷ ks) key none zero here = by_first (same_key key k) refl none where
@@ -45,6 +45,17 @@ unseen-words (k ∷ ks) key none (suc i) here = unseen-words ks key (behind (sam
   behind : (b c : Bool) → (b || c) ≡ false → c ≡ false
   behind true c e = absurd (true≢false e)
   behind false c e = e
+
+-- where one is the same, one has its words
+pub seen-words : (keys : List Key) (key : Key) → list_any (same_key key) keys ≡ true → (i : ℕ)
+    × (slice_get (words_in keys) i ≡ Some key.words.items)
+seen-words [] key some = absurd (true≢false (sym some))
+seen-words (k ∷ ks) key some = by_first (seen-words ks key) (same_key key k) refl some where
+  by_first : (list_any (same_key key) ks ≡ true → (i : ℕ) × (slice_get (words_in ks) i ≡ Some key.words.items)) → (b : Bool)
+      → same_key key k ≡ b → (b || list_any (same_key key) ks) ≡ true → (i : ℕ)
+      × (slice_get (words_in (k ∷ ks)) i ≡ Some key.words.items)
+  by_first behind true is e = (0, ap (λ ws. Some ws) (sym (same_text key.words.items k.words.items (sym is))))
+  by_first behind false is e = let rest = behind e in (suc rest.0, rest.1)
 
 -- a key that isn't there is the last one
 module _ (old new : List Key) (key : Key) (added : true ≡ not (list_any (same_key key) old)) (are : new ≡ with_key old key) where

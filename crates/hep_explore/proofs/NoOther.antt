@@ -158,7 +158,7 @@ module _ (program : Units) (cells most : ℕ) (s : Known) (within : IsSearchWith
     by_full (inl none) path = absurd (full none)
     by_full (inr same) (inl none) = absurd (full none)
     by_full (inr same) (inr path) = inr (path.0, subst (λ n. IsFullPath program n path.0) same path.1)
-  search_cut stopped (inr left) = let enough = within.search.cut left in inl (omega (arith, within.most))
+  search_cut stopped (inr left) = let enough = within.search.cut left in inl (omega (arith, within.bounded))
 
 -- ---- a program that doesn't fit
 

@@ -241,6 +241,30 @@ module _ (program : Units) (s : Known) (search : IsSearch program s) (m : CoreSt
           let at : length s.states ≡ s.expanded + k = sym search.counted ∙ ap (λ j. s.expanded + j) (sym last) in
           subst (λ j. IsNumbered program with_state j x) at (subst (IsNumbered program with_state (length s.states)) new new_numbered)
 
+-- a search in which a state is told to have ended, or the search to be cut short
+pub told_is_search : (program : Units) (s : Known) (ended : List ℕ) (cut : Bool) → IsSearch program s
+    → (cut ≡ true → s.most ≤ length s.states) → IsSearch program (record s { ended = ended; cut = cut })
+told_is_search program s ended cut search enough =
+    record {
+      opening = search.opening;
+      opening_is = search.opening_is;
+      different = search.different;
+      begins = search.begins;
+      origins = search.origins;
+      origin = λ i o some here. origin_on program s told on i o (search.origin i o some here);
+      counted = search.counted;
+      full = λ o e. full_on program s told on o (search.full o e);
+      few = search.few;
+      cut = enough;
+      queued = λ k m here. numbered_on program s told on (s.expanded + k) m (search.queued k m here);
+    }
+  where
+    told : Known
+    told = record s { ended = ended; cut = cut }
+
+    on : KeepsStates s told
+    on = record { cells = refl; most = refl; states = λ i k is. is }
+
 -- what a search knows after a step
 pub record HasVisited (program : Units) (old new : Known) (m : CoreState) : Type 0 where
   pub search : IsSearch program new
@@ -359,30 +383,6 @@ module _ (program : Units) (s : Known) (search : IsSearch program s) (m : CoreSt
             numbered_on program s taken same (s.expanded + 1 + k) x (
             subst (λ i. IsNumbered program s i x) at (search.queued (suc k) x (ap (λ q. slice_get q (suc k)) first ∙ here)));
       }
-
--- a search in which a state is told to have ended, or the search to be cut short
-pub told_is_search : (program : Units) (s : Known) (ended : List ℕ) (cut : Bool) → IsSearch program s
-    → (cut ≡ true → s.most ≤ length s.states) → IsSearch program (record s { ended = ended; cut = cut })
-told_is_search program s ended cut search enough =
-    record {
-      opening = search.opening;
-      opening_is = search.opening_is;
-      different = search.different;
-      begins = search.begins;
-      origins = search.origins;
-      origin = λ i o some here. origin_on program s told on i o (search.origin i o some here);
-      counted = search.counted;
-      full = λ o e. full_on program s told on o (search.full o e);
-      few = search.few;
-      cut = enough;
-      queued = λ k m here. numbered_on program s told on (s.expanded + k) m (search.queued k m here);
-    }
-  where
-    told : Known
-    told = record s { ended = ended; cut = cut }
-
-    on : KeepsStates s told
-    on = record { cells = refl; most = refl; states = λ i k is. is }
 
 -- the search of the opening alone
 pub opening_is_search : (program : Units) (cells most : ℕ) (m : CoreState) (o : Origin) (key : List ℕ) → IsKeyOf program (snapshot_of m) key

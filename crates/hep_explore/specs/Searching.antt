@@ -211,7 +211,7 @@ pub record IsSearchWithin (program : Units) (cells most : ℕ) (s : Known) : Typ
   pub within : s.cells ≤ cells
   pub done : s.queue ≡ []
   pub full : (s.full ≡ None) ⊎ (s.cells ≡ cells)
-  pub most : s.most ≡ most
+  pub bounded : s.most ≡ most
 
 -- ---- keys
 

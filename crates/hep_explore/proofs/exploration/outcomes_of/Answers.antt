@@ -38,7 +38,7 @@ returns c =
           c.list_full.new.found.items full.outcomes listed c.is_complete.result c.is_complete.ensures.whole;
       states = subst (λ n. HaveStates program cells n c.list_full.new.found.items c.is_complete.result) (sym c.len.ensures) (
           search_states program cells most s within c.list_full.new.found.items listed c.is_complete.result c.is_complete.ensures.whole);
-      few = let few = within.search.few in omega (arith, within.most, c.len.ensures);
+      few = let few = within.search.few in omega (arith, within.bounded, c.len.ensures);
       cut = λ partial.
           subst (IsCutBy program cells most) (sym c.len.ensures) (
           search_cut program cells most s within full.full (c.is_complete.ensures.partial partial));

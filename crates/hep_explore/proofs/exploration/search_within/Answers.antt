@@ -17,7 +17,7 @@ returns-then-not-is_full g c =
       within = omega (arith, is.same.0);
       done = done_by true s (λ yes. none) is.done;
       full = inl none;
-      most = is.same.1;
+      bounded = is.same.1;
     }
 
 pub returns : goal.returns
@@ -30,5 +30,5 @@ returns g c =
       within = omega (arith, is.same.0);
       done = done_by false s (λ yes. absurd (true≢false (sym yes))) is.done;
       full = inr is.same.0;
-      most = is.same.1;
+      bounded = is.same.1;
     }

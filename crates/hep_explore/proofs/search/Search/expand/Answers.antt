@@ -56,5 +56,5 @@ returns c =
       search = told_is_search program new c.push.new.self.items new.cut c.in_ok-moved.ensures.search c.in_ok-moved.ensures.search.cut;
       expanded = subst (λ es. AreExpanded program (c.args.from + 1) (record new { ended = es })) (sym c.in_ok-push.ensures.items) (
           expanded_no program alike new c.args.from m numbered still tried);
-      same = (on.kept, c.in_ok-moved.ensures.same);
+      same = (record { cells = on.kept.cells; most = on.kept.most; states = on.kept.states }, c.in_ok-moved.ensures.same);
     }

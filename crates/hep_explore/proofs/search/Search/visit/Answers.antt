@@ -7,12 +7,12 @@ use Rattle.hep_explore.proofs.search.Search.visit.Goals as goal
 pub key_of-requires : goal.key_of-requires
 key_of-requires c = (c.args.self.now.cells, c.requires.visit.choices, c.requires.visit.after)
 
-pub returns-then-len : goal.returns-then-len
-returns-then-len c =
+pub returns-then-len-self : goal.returns-then-len-self
+returns-then-len-self c =
     let s = known_of c.args.self.now in
     let v =
     last_visit c.args.image.now s c.args.machine c.in_ok-key.key.words.items c.contains.result c.requires.search c.in_ok-key.ensures (
-    omega (arith, c.if-len.true)) c.contains.ensures.seen
+    omega (arith, c.if-len-self.true)) c.contains.ensures.seen
     in
     record { search = v.search; goes_on = v.goes_on; same = refl; found = v.found }
 
@@ -38,7 +38,7 @@ returns c =
       queue = c.push_back.new.self.items;
     } in
     let is_new = not-false c.in_ok-found.found.1 c.if-not-found.false in
-    let room : length s.states < s.most = omega (arith, c.if-len.false) in
+    let room : length s.states < s.most = omega (arith, c.if-len-self.false) in
     let states = (c.in_ok-found.ensures.added is_new).1 in
     let v =
     new_visit c.args.image.now s new c.requires.search m c.args.origin c.requires.visit c.in_ok-key.key.words.items c.in_ok-key.ensures (
