@@ -20,7 +20,7 @@ _hepf_has_file() {
     local index
     for ((index = $1 + 1; index < COMP_CWORD; index++)); do
         case ${COMP_WORDS[index]} in
-            --long | --warn | --progress | --lanes | --fixed | --free | --capitals | --help) ;;
+            --long | --warn | --progress | --expect-one | --lanes | --fixed | --free | --capitals | --help) ;;
             --*)
                 ((index += 1))
                 [[ ${COMP_WORDS[index]} != = ]] || ((index += 1))
@@ -38,7 +38,7 @@ _hepf() {
     [[ $before != = ]] || before=${COMP_WORDS[COMP_CWORD - 2]}
     [[ $word != = ]] || word=
     case $before in
-        --arena | --at | --from | --to | --process | --cell | --width | --steps | --workers | --seed | --runs | --states) return ;;
+        --arena | --at | --from | --to | --process | --cell | --width | --steps | --workers | --seed | --runs | --states | --expect-status) return ;;
         --format)
             case " ${COMP_WORDS[*]} " in
                 *" cover "*) _hepf_offer -W lcov ;;
@@ -68,7 +68,7 @@ _hepf() {
         list) options="--color --long --help" ;;
         run) options="--arena --steps --workers --seed --choices --follow --history --color --long --help" ;;
         sample) options="--runs --seed --arena --steps --keep --format --progress --color --long --help" ;;
-        explore) options="--states --arena --keep --color --long --help" ;;
+        explore) options="--states --arena --expect-one --expect-status --keep --progress --color --long --help" ;;
         replay) options="--arena --color --long --help" ;;
         page) options="--from --to --choices --seed --arena --steps --long --help" ;;
         picture) options="--choices --seed --arena --steps --long --help" ;;
@@ -79,9 +79,9 @@ _hepf() {
         trace) options="--from --to --process --cell --lanes --width --format --choices --seed --arena --steps --color --long --help" ;;
         explain)
             if ((COMP_CWORD == at + 1)); then
-                options="--long --help 101 102 103 104 105 106 107 201 202 203 204 205 301 302 303 304 305 306 307 308 309 310 311 312 401 402 501 506 601 602 603 701 702 703 704 705 OVERFLOW DIVIDE RANGE UNDEFINED SHAPE STEP FAULT WAITING STOPPED ARENA NO WORKERS READ WRITE REFUSED STILL WARNING RACE DEADLOCK CIRCLE SEED STATUS WORDS"
+                options="--long --help 101 102 103 104 105 106 107 201 202 203 204 205 301 302 303 304 305 306 307 308 309 310 311 312 401 402 501 506 601 602 603 701 702 703 704 705 OVERFLOW DIVIDE RANGE UNDEFINED SHAPE STEP FAULT WAITING STOPPED ARENA NO WORKERS READ WRITE REFUSED STILL WARNING RACE EXPECTED DEADLOCK CIRCLE SEED STATUS WORDS"
             else
-                options="ARENA STEP FULL LIMIT MEMORY REFUSED FAULT RUNNING 0 1 2 3 4 5 6 7 8 9 70"
+                options="ARENA STEP FULL LIMIT MEMORY REFUSED FAULT RUNNING 0 1 2 3 4 5 6 7 8 9 10 70"
             fi
             # Small letters name the same.
             [[ $word != [a-z]* ]] || options=${options,,}

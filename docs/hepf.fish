@@ -44,7 +44,10 @@ for command in hepf hepf-unproved
     complete -c $command -n '__fish_seen_subcommand_from sample cover' -l runs -x -d 'runs, 1 to 1000000'
     complete -c $command -n '__fish_seen_subcommand_from sample explore' -l keep -r -F -d 'how the files of histories begin'
     complete -c $command -n '__fish_seen_subcommand_from explore' -l states -x -d 'states at most'
+    complete -c $command -n '__fish_seen_subcommand_from explore' -l expect-one -d 'status 10 where there are several outcomes, or none'
+    complete -c $command -n '__fish_seen_subcommand_from explore' -l expect-status -x -d 'status 10 where an outcome has another one'
     complete -c $command -n '__fish_seen_subcommand_from sample' -l progress -d 'say how many runs were made'
+    complete -c $command -n '__fish_seen_subcommand_from explore' -l progress -d 'say how many states were found'
     complete -c $command -n '__fish_seen_subcommand_from run' -l workers -x -d 'threads, 1 to 16'
     complete -c $command -n '__fish_seen_subcommand_from run state trace page picture why races cover diff' -l choices -r -F -d 'processes that are chosen first'
     complete -c $command -n '__fish_seen_subcommand_from run' -l follow -r -F -d 'history whose steps are made first'
@@ -56,5 +59,5 @@ for command in hepf hepf-unproved
     complete -c $command -n '__fish_seen_subcommand_from from' -l capitals -d 'write small letters as capitals'
     complete -c $command -n '__fish_seen_subcommand_from from' -l help -d 'show help'
     complete -c $command -n '__fish_seen_subcommand_from help' -a 'check run sample explore replay state trace page picture why races cover diff list explain from'
-    complete -c $command -n '__fish_seen_subcommand_from explain' -a '101 102 103 104 105 106 107 201 202 203 204 205 301 302 303 304 305 306 307 308 309 310 311 312 401 402 501 506 601 602 603 701 702 703 704 705 OVERFLOW DIVIDE RANGE UNDEFINED SHAPE STEP FAULT WAITING STOPPED ARENA NO WORKERS READ WRITE REFUSED STILL WARNING RACE DEADLOCK CIRCLE SEED STATUS WORDS FULL LIMIT MEMORY RUNNING 0 1 2 3 4 5 6 7 8 9 70'
+    complete -c $command -n '__fish_seen_subcommand_from explain' -a '101 102 103 104 105 106 107 201 202 203 204 205 301 302 303 304 305 306 307 308 309 310 311 312 401 402 501 506 601 602 603 701 702 703 704 705 OVERFLOW DIVIDE RANGE UNDEFINED SHAPE STEP FAULT WAITING STOPPED ARENA NO WORKERS READ WRITE REFUSED STILL WARNING RACE EXPECTED DEADLOCK CIRCLE SEED STATUS WORDS FULL LIMIT MEMORY RUNNING 0 1 2 3 4 5 6 7 8 9 10 70'
 end

@@ -53,8 +53,9 @@ _hepf_words() {
                 '--progress[say how many runs were made]' '--color=[when lines have colors]:when:((auto\:terminals always\:always never\:never))' '--long[say more of what went wrong]' '--help[show help]' '1:source:_files -g "*.(f|for|hep)"'
             ;;
         explore)
-            _arguments '--states=[states at most]:states:' '--arena=[cells of storage]:cells:' '--keep=[how the files of histories begin]:prefix:_files' \
-                '--color=[when lines have colors]:when:((auto\:terminals always\:always never\:never))' '--long[say more of what went wrong]' '--help[show help]' '1:source:_files -g "*.(f|for|hep)"'
+            _arguments '--states=[states at most]:states:' '--arena=[cells of storage]:cells:' '--expect-one[status 10 where there are several outcomes, or none]' \
+                '--expect-status=[status 10 where an outcome has another one]:status:' '--keep=[how the files of histories begin]:prefix:_files' \
+                '--progress[say how many states were found]' '--color=[when lines have colors]:when:((auto\:terminals always\:always never\:never))' '--long[say more of what went wrong]' '--help[show help]' '1:source:_files -g "*.(f|for|hep)"'
             ;;
         replay)
             _arguments '--arena=[cells of storage]:cells:' '--color=[when lines have colors]:when:((auto\:terminals always\:always never\:never))' '--long[say more of what went wrong]' '--help[show help]' '1:source:_files -g "*.(f|for|hep)"' \
@@ -103,8 +104,8 @@ _hepf_words() {
                 '2:history:_files'
             ;;
         explain)
-            _arguments '--long[say more of what went wrong]' '--help[show help]' '1:number or name:(101 102 103 104 105 106 107 201 202 203 204 205 301 302 303 304 305 306 307 308 309 310 311 312 401 402 501 506 601 602 603 701 702 703 704 705 OVERFLOW DIVIDE RANGE UNDEFINED SHAPE STEP FAULT WAITING STOPPED ARENA NO WORKERS READ WRITE REFUSED STILL WARNING RACE DEADLOCK CIRCLE SEED STATUS WORDS)' \
-                '*:its next word:(ARENA STEP FULL LIMIT MEMORY REFUSED FAULT RUNNING 0 1 2 3 4 5 6 7 8 9 70)'
+            _arguments '--long[say more of what went wrong]' '--help[show help]' '1:number or name:(101 102 103 104 105 106 107 201 202 203 204 205 301 302 303 304 305 306 307 308 309 310 311 312 401 402 501 506 601 602 603 701 702 703 704 705 OVERFLOW DIVIDE RANGE UNDEFINED SHAPE STEP FAULT WAITING STOPPED ARENA NO WORKERS READ WRITE REFUSED STILL WARNING RACE EXPECTED DEADLOCK CIRCLE SEED STATUS WORDS)' \
+                '*:its next word:(ARENA STEP FULL LIMIT MEMORY REFUSED FAULT RUNNING 0 1 2 3 4 5 6 7 8 9 10 70)'
             ;;
         from)
             _arguments '-o[file that gets the source]:source:_files' '--fixed[statements begin in column 7]' '--free[statements begin anywhere]' \

@@ -95,14 +95,14 @@ FORMS = {
         operands.split(),
         re.findall(r"\[([A-Z]\S*)\]", line),
         re.findall(r"(?<=\] )([A-Z]+)(?= \[)", line),
-        dict(re.findall(r"\[(--\w+) ([\w|]+)\]", line)),
-        re.findall(r"\[(--\w+)\]", line),
-        re.findall(r"\[(--\w+) [\w|]+\]\.\.", line),
+        dict(re.findall(r"\[(--[\w-]+) ([\w|]+)\]", line)),
+        re.findall(r"\[(--[\w-]+)\]", line),
+        re.findall(r"\[(--[\w-]+) [\w|]+\]\.\.", line),
     )
     for line, name, operands in re.findall(r"^(hepf (\w+) ([^[]*).*)$", TABLE, re.M)
 }
 # By option, its least and its greatest number.
-NUMBERS = {name: (int(least), int(most)) for name, least, most in re.findall(r"^(--\w+) (\d+) (\d+)$", TABLE, re.M)}
+NUMBERS = {name: (int(least), int(most)) for name, least, most in re.findall(r"^(--[\w-]+) (\d+) (\d+)$", TABLE, re.M)}
 
 
 # ---- texts

@@ -79,14 +79,20 @@ sample_with_all : asked (codes "hepf" ∷ codes "sample" ∷ codes "--runs" ∷ 
 unfolding asked clap_on_literals
 sample_with_all = refl
 
-explore_with_defaults : asked (codes "hepf" ∷ codes "explore" ∷ codes "a.f" ∷ []) ≡ Some (explore (codes "a.f") 1000000 65536 None)
+explore_with_defaults : asked (codes "hepf" ∷ codes "explore" ∷ codes "a.f" ∷ []) ≡ Some (explore (codes "a.f") 1000000 65536 None false false None)
 unfolding asked clap_on_literals
 explore_with_defaults = refl
 
-explore_with_all : asked (codes "hepf" ∷ codes "explore" ∷ codes "--states" ∷ codes "16777216" ∷ codes "a.f" ∷ codes "--arena=9" ∷ codes "--keep=k" ∷ [])
-    ≡ Some (explore (codes "a.f") 16777216 9 (Some (codes "k")))
+explore_with_all : asked (codes "hepf" ∷ codes "explore" ∷ codes "--states" ∷ codes "16777216" ∷ codes "a.f" ∷ codes "--arena=9" ∷ codes "--keep=k"
+    ∷ codes "--expect-status" ∷ codes "0" ∷ codes "--expect-one" ∷ codes "--progress" ∷ [])
+    ≡ Some (explore (codes "a.f") 16777216 9 (Some (codes "k")) true true (Some 0))
 unfolding asked clap_on_literals
 explore_with_all = refl
+
+-- no outcome has this status
+expected_ten : asked (codes "hepf" ∷ codes "explore" ∷ codes "a.f" ∷ codes "--expect-status=10" ∷ []) ≡ None
+unfolding asked clap_on_literals
+expected_ten = refl
 
 -- the run of the history h, in an arena of so many cells
 abbrev of_h : ℕ → Viewed
@@ -333,7 +339,7 @@ explained_stop = refl
 explained_refusal : is_explained (codes "+0304") ≡ true
 explained_refusal = refl
 
-no_status : is_explained (codes "STATUS 10") ≡ false
+no_status : is_explained (codes "STATUS 11") ≡ false
 no_status = refl
 
 explained_status : is_explained (codes "70") ≡ true
@@ -341,6 +347,9 @@ explained_status = refl
 
 explained_race : is_explained (codes "RACE") ≡ true
 explained_race = refl
+
+explained_expectation : is_explained (codes "EXPECTED") ≡ true
+explained_expectation = refl
 
 explained_words : is_explained (codes "WORDS") ≡ true
 explained_words = refl

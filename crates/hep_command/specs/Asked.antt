@@ -39,7 +39,7 @@ pub data RequestedJob : Type 0 where
   check : Text → Bool → CheckForm → RequestedJob
   run : Text → ℕ → ℕ → Option ℕ → Option ℕ → Option Text → Option Text → Option Text → RequestedJob
   sample : Text → ℕ → ℕ → ℕ → ℕ → Option Text → Bool → Bool → RequestedJob
-  explore : Text → ℕ → ℕ → Option Text → RequestedJob
+  explore : Text → ℕ → ℕ → Option Text → Bool → Bool → Option ℕ → RequestedJob
   replay : Text → Text → ℕ → RequestedJob
   state : Text → Viewed → Option ℕ → Bool → RequestedJob
   trace : Text → Viewed → Option ℕ → Option ℕ → Option ℕ → Option Text → TraceForm → RequestedJob
@@ -56,7 +56,8 @@ asked_by Standard = standard
 asked_by (Check file warn form) = check file.now warn form
 asked_by (Run file arena steps workers seed choices follow history) = run file.now arena steps workers seed (texts choices) (texts follow) (texts history)
 asked_by (Sample file runs seed arena steps keep progress json) = sample file.now runs seed arena steps (texts keep) progress json
-asked_by (Explore file states arena keep) = explore file.now states arena (texts keep)
+asked_by (Explore file states arena keep progress expect_one expect_status) =
+    explore file.now states arena (texts keep) progress expect_one expect_status
 asked_by (Replay file history arena) = replay file.now history.now arena
 asked_by (State file view at json) = state file.now (viewed_by view) at json
 asked_by (Trace file view first last process cell form) = trace file.now (viewed_by view) first last process (texts cell) form
@@ -166,10 +167,19 @@ sample_in rows =
 abbrev pub states_in : ListOf Row → Option ℕ
 states_in rows = option_number 16777216 1000000 (first_of (codes "states") rows)
 
+-- the status that is expected, where its option is given
+abbrev pub expected_status_by : Option Text → Option (Option ℕ)
+expected_status_by None = Some None
+expected_status_by (Some text) = option_map Some (number_within 0 9 text)
+
+abbrev pub expected_status_in : ListOf Row → Option (Option ℕ)
+expected_status_in rows = expected_status_by (first_of (codes "expect-status") rows)
+
 abbrev pub explore_in : ListOf Row → Option RequestedJob
 explore_in rows =
-    option_and_then (λ file. option_and_then (λ states. option_map (λ arena. explore file states arena (first_of (codes "keep") rows))
-    (arena_in rows)) (states_in rows)) (first_of (codes "file") rows)
+    option_and_then (λ file. option_and_then (λ states. option_and_then (λ arena. option_map
+    (explore file states arena (first_of (codes "keep") rows) (is_given (codes "progress") rows) (is_given (codes "expect-one") rows))
+    (expected_status_in rows)) (arena_in rows)) (states_in rows)) (first_of (codes "file") rows)
 
 abbrev pub replay_in : ListOf Row → Option RequestedJob
 replay_in rows =

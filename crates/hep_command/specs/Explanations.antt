@@ -26,12 +26,14 @@ abbrev pub ends : List Text
 ends =
     codes "FAULT" ∷ codes "WAITING" ∷ codes "STOPPED ARENA FULL" ∷ codes "ARENA FULL"
     ∷ codes "STOPPED STEP LIMIT" ∷ codes "STEP LIMIT" ∷ codes "NO MEMORY" ∷ codes "WORKERS REFUSED"
-    ∷ codes "READ FAULT" ∷ codes "WRITE FAULT" ∷ codes "REFUSED" ∷ codes "STILL RUNNING" ∷ codes "WARNING" ∷ codes "RACE" ∷ []
+    ∷ codes "READ FAULT" ∷ codes "WRITE FAULT" ∷ codes "REFUSED" ∷ codes "STILL RUNNING" ∷ codes "WARNING" ∷ codes "RACE"
+    ∷ codes "EXPECTED" ∷ []
 
 abbrev pub statuses : List Text
 statuses =
     codes "STATUS" ∷ codes "STATUS 0" ∷ codes "STATUS 1" ∷ codes "STATUS 2" ∷ codes "STATUS 3" ∷ codes "STATUS 4"
-    ∷ codes "STATUS 5" ∷ codes "STATUS 6" ∷ codes "STATUS 7" ∷ codes "STATUS 8" ∷ codes "STATUS 9" ∷ codes "STATUS 70" ∷ []
+    ∷ codes "STATUS 5" ∷ codes "STATUS 6" ∷ codes "STATUS 7" ∷ codes "STATUS 8" ∷ codes "STATUS 9" ∷ codes "STATUS 10"
+    ∷ codes "STATUS 70" ∷ []
 
 -- other words for what a run shows, and the list of all names and numbers
 abbrev pub terms : List Text
@@ -39,7 +41,7 @@ terms = codes "DEADLOCK" ∷ codes "CIRCLE" ∷ codes "SEED" ∷ codes "WORDS" �
 
 -- the numbers of the statuses
 abbrev pub status_numbers : List ℕ
-status_numbers = 0 ∷ 1 ∷ 2 ∷ 3 ∷ 4 ∷ 5 ∷ 6 ∷ 7 ∷ 8 ∷ 9 ∷ 70 ∷ []
+status_numbers = 0 ∷ 1 ∷ 2 ∷ 3 ∷ 4 ∷ 5 ∷ 6 ∷ 7 ∷ 8 ∷ 9 ∷ 10 ∷ 70 ∷ []
 
 abbrev pub is_status : ℕ → Bool
 is_status number = list_any (nat_eq number) status_numbers

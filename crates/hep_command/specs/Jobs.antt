@@ -40,6 +40,11 @@ IsTraceForm _ = Unit {0}
 abbrev pub IsSearched : ℕ → Type 0
 IsSearched states = (1 ≤ states) × (states ≤ 16777216)
 
+-- the status of outcomes that is expected
+abbrev pub IsExpected : Option ℕ → Type 0
+IsExpected None = Unit {0}
+IsExpected (Some status) = status ≤ 9
+
 -- the numbers of the run that is looked at are those that its options allow
 abbrev pub IsViewInRange : ViewedRun → Type 0
 IsViewInRange run = IsArena run.arena × IsSteps run.steps × HasSeed run.seed
@@ -50,7 +55,7 @@ IsInRange Standard = Unit {0}
 IsInRange (Check file warn form) = Unit {0}
 IsInRange (Run file arena steps workers seed choices follow history) = IsArena arena × IsSteps steps × AreWorkers workers × HasSeed seed
 IsInRange (Sample file runs seed arena steps keep progress json) = AreSampled runs × IsSeed seed × IsArena arena × IsSteps steps
-IsInRange (Explore file states arena keep) = IsSearched states × IsArena arena
+IsInRange (Explore file states arena keep progress expect_one expect_status) = IsSearched states × IsArena arena × IsExpected expect_status
 IsInRange (Replay file history arena) = IsArena arena
 IsInRange (State file run at json) = IsViewInRange run
 IsInRange (Trace file run first last process cell form) = IsViewInRange run × IsTraceForm form

@@ -111,8 +111,17 @@ sample_command =
 abbrev pub states_option : Rule
 states_option = number_option (codes "states") 16777216
 
+-- the outcomes that are expected
+abbrev pub expect_one_flag : Rule
+expect_one_flag = flag (codes "expect-one")
+
+abbrev pub expect_status_option : Rule
+expect_status_option = record (file_option (codes "expect-status")) { parser = Some (Unsigned 0 9) }
+
 abbrev pub explore_command : App
-explore_command = command_with (codes "explore") (source_word ∷ states_option ∷ arena_option ∷ keep_option ∷ color_option ∷ long_flag ∷ [])
+explore_command =
+    command_with (codes "explore") (source_word ∷ states_option ∷ arena_option ∷ expect_one_flag ∷ expect_status_option ∷ keep_option
+    ∷ progress_flag ∷ color_option ∷ long_flag ∷ [])
 
 abbrev pub replay_command : App
 replay_command = command_with (codes "replay") (source_word ∷ history_word ∷ arena_option ∷ color_option ∷ long_flag ∷ [])

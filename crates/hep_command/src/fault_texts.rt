@@ -405,6 +405,33 @@ Right, by races a.f:
       END
 ";
 
+const EXPECTED: &str =
+    "EXPECTED ONE OUTCOME: explore --expect-one found several outcomes, or that none
+is possible. EXPECTED STATUS n: explore --expect-status n found an outcome with
+another status, or that none is possible. Status 10.
+Give --keep PREFIX too: why, trace and diff show how each outcome comes about.
+
+Wrong, by explore a.f --expect-one: EXPECTED ONE OUTCOME
+
+      CREATE S(1)
+      PRINT *, 2
+      END
+      SUBROUTINE S(N)
+      PRINT *, N
+      END
+
+Right, by explore a.f --expect-one:
+
+      INTEGER $X
+      CREATE GIVE($X)
+      PRINT *, $X
+      END
+      SUBROUTINE GIVE($Y)
+      INTEGER $Y
+      $Y = 1
+      END
+";
+
 const STATUS: &str = "The exit status of hepf says how the run, or what was asked for, has ended.
 0   Done, or a text was shown. A replay could go on: STILL RUNNING.
 1   The source is refused: REFUSED number LINE n.
@@ -416,6 +443,7 @@ const STATUS: &str = "The exit status of hepf says how the run, or what was aske
 7   NO MEMORY, or WORKERS REFUSED number.
 8   READ FAULT or WRITE FAULT AFTER n: a file or a stream failed.
 9   RACE on v: races found a race.
+10  EXPECTED ONE OUTCOME, EXPECTED STATUS n: explore found other outcomes.
 70  The program couldn't be built, or hepf-unproved got no answer from it.
 `hepf explain status 4` says more of one.
 ";
@@ -476,8 +504,8 @@ Refusals    101 to 107, 201 to 205, 301 to 312, 401, 402, 501, 506, 601 to 603,
 Faults      FAULT, OVERFLOW, DIVIDE, RANGE, UNDEFINED, SHAPE, STEP
 Other ends  WAITING, STOPPED ARENA FULL, STOPPED STEP LIMIT, NO MEMORY,
             WORKERS REFUSED, READ FAULT, WRITE FAULT, REFUSED, STILL RUNNING
-Statuses    STATUS, STATUS 0 to STATUS 9, STATUS 70; or the number alone
-Other words WARNING, RACE, DEADLOCK, CIRCLE, SEED, WORDS
+Statuses    STATUS, STATUS 0 to STATUS 10, STATUS 70; or the number alone
+Other words WARNING, RACE, EXPECTED, DEADLOCK, CIRCLE, SEED, WORDS
 STOPPED may be left out. Without a word WORDS is explained.
 ";
 
@@ -492,7 +520,7 @@ const FAULTS: [(&str, &str); 6] = [
 ];
 
 // The other ends of a run.
-const ENDS: [(&str, &str); 14] = [
+const ENDS: [(&str, &str); 15] = [
     ("FAULT", FAULT),
     ("WAITING", WAITING),
     ("STOPPED ARENA FULL", STOPPED_ARENA_FULL),
@@ -507,9 +535,10 @@ const ENDS: [(&str, &str); 14] = [
     ("STILL RUNNING", DONE),
     ("WARNING", WARNING),
     ("RACE", RACE),
+    ("EXPECTED", EXPECTED),
 ];
 
-const STATUSES: [(&str, &str); 12] = [
+const STATUSES: [(&str, &str); 13] = [
     ("STATUS", STATUS),
     ("STATUS 0", DONE),
     ("STATUS 1", REFUSED),
@@ -521,11 +550,12 @@ const STATUSES: [(&str, &str); 12] = [
     ("STATUS 7", NO_MEMORY),
     ("STATUS 8", READ_FAULT),
     ("STATUS 9", RACE),
+    ("STATUS 10", EXPECTED),
     ("STATUS 70", UNBUILT),
 ];
 
 // The statuses by their numbers.
-const STATUS_NUMBERS: [(u16, &str); 11] = [
+const STATUS_NUMBERS: [(u16, &str); 12] = [
     (0, DONE),
     (1, REFUSED),
     (2, UNUSABLE),
@@ -536,6 +566,7 @@ const STATUS_NUMBERS: [(u16, &str); 11] = [
     (7, NO_MEMORY),
     (8, READ_FAULT),
     (9, RACE),
+    (10, EXPECTED),
     (70, UNBUILT),
 ];
 

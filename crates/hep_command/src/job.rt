@@ -46,6 +46,9 @@ pub const STATES: u64 = 1_000_000;
 /// The greatest number of states of a search.
 pub const MOST_STATES: u64 = 16_777_216;
 
+/// The greatest status that outcomes may be expected to have.
+pub const MOST_STATUS: u64 = 9;
+
 /// Which run is looked at: the one of a history, where its file is named; else one that is made for it, by choices, by lots or serial.
 #[derive(Clone, Copy)]
 pub struct ViewedRun<'a> {
@@ -149,6 +152,12 @@ pub enum Job<'a> {
         arena: u32,
         /// The prefix of the files to which a history of each outcome is written.
         keep: Option<&'a str>,
+        /// Whether it is said from the first state on how many have been found.
+        progress: bool,
+        /// Whether just one outcome is expected.
+        expect_one: bool,
+        /// The status that each outcome is expected to have, 0 to 9.
+        expect_status: Option<u8>,
     },
     /// Make the steps of a history again.
     Replay {

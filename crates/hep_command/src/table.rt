@@ -1,8 +1,8 @@
 //! The commands and their words, as a table.
 
 use crate::job::{
-    LEAST_WIDTH, MOST_ARENA, MOST_RUNS, MOST_SEED, MOST_STATES, MOST_STEPS, MOST_WIDTH,
-    MOST_WORKERS,
+    LEAST_WIDTH, MOST_ARENA, MOST_RUNS, MOST_SEED, MOST_STATES, MOST_STATUS, MOST_STEPS,
+    MOST_WIDTH, MOST_WORKERS,
 };
 
 /// The kinds of words of a command.
@@ -54,7 +54,8 @@ const SAMPLE_EXAMPLE: &str = "What no lot shows isn't shown never to happen.
 
 Example: hepf sample examples/race.f --runs 1000 --keep race";
 
-const EXPLORE_EXAMPLE: &str = "Example: hepf explore examples/race.f --keep race";
+const EXPLORE_EXAMPLE: &str = "Example: hepf explore examples/race.f --keep race
+         hepf explore examples/pair.f --expect-one --expect-status 0";
 
 const REPLAY_EXAMPLE: &str = "Example: hepf replay examples/powers.f powers.history";
 
@@ -84,8 +85,8 @@ const EXPLAIN_EXAMPLES: &str =
     "Of refusals and statuses the number. Of the rest, in small letters too:
 OVERFLOW, DIVIDE, RANGE, UNDEFINED, SHAPE, STEP, FAULT, WAITING, ARENA FULL,
 STEP LIMIT, NO MEMORY, WORKERS REFUSED, READ FAULT, WRITE FAULT, REFUSED,
-STILL RUNNING, WARNING, DEADLOCK, CIRCLE, RACE, SEED, STATUS, STATUS 0 to
-STATUS 9 and STATUS 70. WORDS lists them all.
+STILL RUNNING, WARNING, DEADLOCK, CIRCLE, RACE, EXPECTED, SEED, STATUS,
+STATUS 0 to STATUS 10 and STATUS 70. WORDS lists them all.
 
 Example: hepf explain 304
          hepf explain arena full";
@@ -102,7 +103,15 @@ pub(crate) const LONG: WordRow = WordRow {
     id: "long",
     kind: WordKind::Flag,
     value: "",
-    help: "Say more of what went wrong: which file, line and name",
+    help: "Say more of what went wrong: which file, line or name",
+};
+
+// How many states a search has found.
+const SEARCH_PROGRESS: WordRow = WordRow {
+    id: "progress",
+    kind: WordKind::Flag,
+    value: "",
+    help: "Say on standard error how many states were found",
 };
 
 // How many runs of a sample have been made.
@@ -230,6 +239,21 @@ const STATES: WordRow = WordRow {
     kind: WordKind::Number(1, MOST_STATES),
     value: "N",
     help: "States at most, 1 to 16777216 [default: 1000000]",
+};
+
+// What is expected of the outcomes.
+const EXPECT_ONE: WordRow = WordRow {
+    id: "expect-one",
+    kind: WordKind::Flag,
+    value: "",
+    help: "Status 10 where there are several outcomes, or none",
+};
+
+const EXPECT_STATUS: WordRow = WordRow {
+    id: "expect-status",
+    kind: WordKind::Number(0, MOST_STATUS),
+    value: "N",
+    help: "Status 10 where an outcome hasn't status N, 0 to 9",
 };
 
 const EXPLORED: WordRow = WordRow {
@@ -452,7 +476,17 @@ pub(crate) const RUNNING: [CommandRow; 5] = [
         name: "explore",
         about: "Find every outcome that a source may have, over all choices",
         example: EXPLORE_EXAMPLE,
-        words: &[SOURCE, STATES, ARENA, EXPLORED, COLOR, LONG],
+        words: &[
+            SOURCE,
+            STATES,
+            ARENA,
+            EXPECT_ONE,
+            EXPECT_STATUS,
+            EXPLORED,
+            SEARCH_PROGRESS,
+            COLOR,
+            LONG,
+        ],
     },
     CommandRow {
         name: "replay",

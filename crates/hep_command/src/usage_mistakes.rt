@@ -53,6 +53,9 @@ fn range_of(option: &str) -> &'static str {
     if option == "width" {
         return "40 to 400";
     }
+    if option == "expect-status" {
+        return "0 to 9";
+    }
     if option == "at" {
         return "0 to 4294967296";
     }

@@ -7,13 +7,13 @@ ghost use Rattle.hep_command.specs.Numbers.{number_within, option_number};
 ghost use Rattle.hep_command.specs.Asked.{asked_by, arena_in, check_in, command_in, command_place, explain_in, heard, is_given, is_help_of_help, is_version};
 ghost use Rattle.hep_command.specs.Asked.{entries_in, is_long_in, is_word, job_in, cover_in, diff_in, histories_in, list_in, ordinal_in, replay_in, run_in, state_in, steps_in, trace_in, why_in, races_in, word_of, words_found};
 ghost use Rattle.hep_command.specs.Asked.{check_form_in, color_by, color_in, colored_in, covered_in, format_in, other_seed_in, page_in, trace_form_in, viewed_by, viewed_in, width_in};
-ghost use Rattle.hep_command.specs.Asked.{explore_in, first_seed_in, runs_in, sample_in, seed_in, states_in, workers_in};
+ghost use Rattle.hep_command.specs.Asked.{expected_status_in, explore_in, first_seed_in, runs_in, sample_in, seed_in, states_in, workers_in};
 ghost use Rattle.hep_command.specs.Jobs.{IsInRange, IsNoPath, IsOneOrder, IsOneRun, IsUsage, IsViewInRange, IsWant, IsTraceForm, IsWrittenApart, page_mistake, usage_status};
 
 use crate::job::{
     ARENA, CheckForm, ColorWhen, FIRST_SEED, Job, LEAST_WIDTH, MOST_ARENA, MOST_RUNS, MOST_SEED,
-    MOST_STATES, MOST_STEPS, MOST_WIDTH, MOST_WORKERS, PageForm, RUNS, Request, STATES, STEPS,
-    TraceForm, Usage, ViewedRun, WIDTH,
+    MOST_STATES, MOST_STATUS, MOST_STEPS, MOST_WIDTH, MOST_WORKERS, PageForm, RUNS, Request,
+    STATES, STEPS, TraceForm, Usage, ViewedRun, WIDTH,
 };
 use crate::program::program;
 use crate::usage_mistakes::said;
@@ -223,6 +223,18 @@ fn states_of(found: &ArgMatches<'_>) -> Option<u32>
     Some(states as u32)
 }
 
+// The status that outcomes are expected to have, if the option is given.
+fn expected_status_of(found: &ArgMatches<'_>) -> Option<Option<u8>>
+    ensures range { IfSome result (λ status. IfSome status (λ n. n ≤ 9)) }
+    ensures number { result ≡ expected_status_in (words_found found.now) }
+{
+    let Some(text) = word_of(found, "expect-status") else {
+        return Some(None);
+    };
+    let status = number_within(text, 0, MOST_STATUS)?;
+    Some(Some(status as u8))
+}
+
 fn explore_job<'a>(found: &ArgMatches<'a>) -> Option<Job<'a>>
     ensures range { IfSome result IsInRange }
     ensures job { option_map asked_by result ≡ explore_in (words_found found.now) }
@@ -232,6 +244,9 @@ fn explore_job<'a>(found: &ArgMatches<'a>) -> Option<Job<'a>>
         states: states_of(found)?,
         arena: arena_of(found)?,
         keep: word_of(found, "keep"),
+        progress: is_given(found, "progress"),
+        expect_one: is_given(found, "expect-one"),
+        expect_status: expected_status_of(found)?,
     })
 }
 

@@ -12,6 +12,7 @@ use crate::found::{Found, add, found_by};
 use crate::key_laws::{
     machines_with_equal_keys_keep_the_same_states, states_of_a_machine_end_alike,
 };
+use crate::observer::SearchObserver;
 use crate::search::Search;
 use hep_image::Image;
 use hep_state::fits;
@@ -28,31 +29,39 @@ pub struct Exploration {
     pub complete: bool,
 }
 
-// The search in an arena of so many cells.
-fn search_in(
-    alloc: Global,
-    image: &Image,
+/// The arena of a search in cells, and how many states it may find.
+#[derive(Clone, Copy)]
+struct Bounds {
     cells: u32,
     most: usize,
+}
+
+// The search within these bounds.
+fn search_in<O: SearchObserver>(
+    alloc: Global,
+    image: &Image,
+    bounds: Bounds,
     until_full: bool,
+    observer: &O,
 ) -> Result<Search, AllocError>
-    requires { CanOpen image.now cells }
+    requires { CanOpen image.now bounds.cells }
     ensures search { IfOk result (λ s. IsSearch image.now (known_of s)) }
     ensures expanded { IfOk result (λ s. AreExpanded image.now s.expanded (known_of s)) }
-    ensures same { IfOk result (λ s. (s.cells ≡ cells) × (s.most ≡ most)) }
+    ensures same { IfOk result (λ s. (s.cells ≡ bounds.cells) × (s.most ≡ bounds.most)) }
     ensures done { IfOk result (λ s. IsDone until_full (known_of s)) }
 {
-    let mut search = Search::open(alloc, image, cells, most)?;
-    search.run(image, until_full)?;
+    let mut search = Search::open(alloc, image, bounds.cells, bounds.most)?;
+    search.run(image, until_full, observer)?;
     Ok(search)
 }
 
 // The search in an arena that is enlarged until each frame has a gap, or it has so many cells.
-fn search_within(
+fn search_within<O: SearchObserver>(
     alloc: Global,
     image: &Image,
     cells: u32,
     most: usize,
+    observer: &O,
 ) -> Result<Search, AllocError>
     requires { CanOpen image.now cells }
     ensures { IfOk result (λ s. IsSearchWithin image.now cells most (known_of s)) }
@@ -60,14 +69,16 @@ fn search_within(
     let mut arena = FIRST_ARENA;
     while arena < cells {
         if fits(image, arena) {
-            let search = search_in(alloc, image, arena, most, true)?;
+            let bounds = Bounds { cells: arena, most };
+            let search = search_in(alloc, image, bounds, true, observer)?;
             if !search.is_full() {
                 return Ok(search);
             }
         }
         arena *= 4;
     }
-    Ok(search_in(alloc, image, cells, most, false)?)
+    let bounds = Bounds { cells, most };
+    Ok(search_in(alloc, image, bounds, false, observer)?)
 }
 
 // Lists the outcome of choices that all make steps, in an arena of so many cells.
@@ -178,7 +189,8 @@ fn full_exploration(alloc: Global, image: &Image, cells: u32) -> Result<Explorat
     })
 }
 
-/// All outcomes of a program in an arena of `cells` cells, 1 to 16,777,216, as far as `most` states show them.
+/// All outcomes of a program in an arena of `cells` cells, 1 to 16,777,216, as far as `most` states show them. The observer is told how many
+/// states have been found, anew in each arena in which they are searched for.
 ///
 /// The outcome of each state in which no process has a step is listed. The search is cut short only where it found `most` states, or a
 /// frame has no gap.
@@ -186,11 +198,12 @@ fn full_exploration(alloc: Global, image: &Image, cells: u32) -> Result<Explorat
 /// # Errors
 ///
 /// Only where memory was refused.
-pub fn explore(
+pub fn explore<O: SearchObserver>(
     alloc: Global,
     image: &Image,
     cells: u32,
     most: usize,
+    observer: &O,
 ) -> Result<Exploration, AllocError>
     requires cells { (1 ≤ cells) × (cells ≤ 16777216) }
     ensures explored { IfOk result (λ e. IsExplored image.now cells e.found.items e.complete) }
@@ -201,6 +214,6 @@ pub fn explore(
     if !fits(image, cells) {
         return Ok(full_exploration(alloc, image, cells)?);
     }
-    let search = search_within(alloc, image, cells, most)?;
+    let search = search_within(alloc, image, cells, most, observer)?;
     outcomes_of(alloc, image, cells, most, &search)
 }

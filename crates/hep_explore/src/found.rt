@@ -42,6 +42,13 @@ impl Found {
         self.status == other.status && are_same
     }
 
+    /// The exit status of a run that has it.
+    pub fn status(&self) -> u8
+        ensures { result ≡ self.now.status }
+    {
+        self.status
+    }
+
     /// A copy of choices that lead to it.
     ///
     /// # Errors

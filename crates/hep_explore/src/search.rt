@@ -7,6 +7,7 @@ ghost use Rattle.hep_explore.specs.Searching.{IsSearch, IsTried, IsVisit, IsWhol
 
 use crate::key::key_of;
 use crate::key_laws::machines_with_equal_keys_keep_the_same_states;
+use crate::observer::SearchObserver;
 use crate::states::States;
 use crate::successor::{Successor, Turns};
 use hep_image::Image;
@@ -251,12 +252,17 @@ impl Search {
         Some((from, machine))
     }
 
-    /// Expands states until all are, or, if `until_full`, a frame has no gap.
+    /// Expands states until all are, or, if `until_full`, a frame has no gap. The observer is told of each.
     ///
     /// # Errors
     ///
     /// Only where memory was refused.
-    pub fn run(&mut self, image: &Image, until_full: bool) -> Result<(), AllocError>
+    pub fn run<O: SearchObserver>(
+        &mut self,
+        image: &Image,
+        until_full: bool,
+        observer: &O,
+    ) -> Result<(), AllocError>
         requires search { IsSearch image.now (known_of self.old) }
         requires expanded { AreExpanded image.now self.old.expanded (known_of self.old) }
         ensures search { OnOk result (IsSearch image.now (known_of self.new)) }
@@ -269,6 +275,7 @@ impl Search {
                 return Ok(());
             };
             self.expand(image, from, &machine)?;
+            observer.states_found(self.states.len());
         }
         Ok(())
     }

@@ -3,3 +3,4 @@ mod InspectedStates
 mod CountedHistories
 mod ComparedRuns
 mod RaceStatuses
+mod Worked

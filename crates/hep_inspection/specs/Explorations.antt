@@ -1,35 +1,77 @@
 -- What is written of all outcomes of a source: docs/RUNS.md, "All outcomes".
-use Rattle.std.specs.Prelude.{◌≡◌, ℕ, Bool, true, false, List, []}
+use Rattle.std.specs.Prelude.{◌≡◌, ◌++◌, ◌∷◌, ◌&&◌, ℕ, Bool, true, false, if◌then◌else◌, not, nat_eq, List, [], Option, Some, None, codes}
+use Rattle.std.specs.Fmt.{decimal}
+use Rattle.std.specs.List.{list_any}
 use Rattle.hep_machine.specs.Words.{Units}
 use Rattle.hep_outcome.specs.Histories.{history_text}
 use Rattle.hep_outcome.specs.Outcome.{Outcome}
 use Rattle.hep_outcome.specs.declared.options.Options.{Options}
 use Rattle.hep_outcome.specs.declared.status.Status.{Status}
-use Rattle.hep_outcome.specs.declared.status.Status.TheVariants.{Done, StepLimit}
+use Rattle.hep_outcome.specs.declared.status.Status.TheVariants.{Done, StepLimit, Unexpected}
 use Rattle.hep_explore.specs.Explored.{Found, IsExplored, explored_text}
 use Rattle.hep_explore.specs.CountedStates.{HaveStates, IsCutBy}
 use Rattle.hep_explore.specs.declared.exploration.Exploration.{Exploration}
 use Rattle.hep_run.specs.Outcome.{IsOutcome, RunsTo}
 use Rattle.hep_inspection.specs.declared.explore_options.ExploreOptions.{ExploreOptions}
 
--- a search that is cut short ends as a run at its step limit
-abbrev pub explored_status : Bool → Status
-explored_status true = Done
-explored_status false = StepLimit
+-- ---- what is expected of the outcomes
 
-abbrev pub outcome_of_exploration : Exploration → Outcome
-outcome_of_exploration e =
-    record { output = explored_text e.found.items e.states e.complete; messages = []; status = explored_status e.complete; history = [] }
+-- that there is one: several contradict it, and none where no other is possible
+abbrev pub contradicts_one : List Found → Bool → Bool
+contradicts_one [] complete = complete
+contradicts_one (found ∷ []) complete = false
+contradicts_one (found ∷ other ∷ others) complete = true
 
--- these outcomes were found, and are written, with the number of states; the search was cut short only where there were more of them than
--- options allow, or a run found no gap for a frame
+-- one of these has another status
+abbrev pub has_other_status : ℕ → List Found → Bool
+has_other_status status all = list_any (λ (found : Found). not (nat_eq found.status status)) all
+
+-- that each has this status: one with another contradicts it, and none where no other is possible
+abbrev pub contradicts_status : ℕ → List Found → Bool → Bool
+contradicts_status status [] complete = complete
+contradicts_status status (found ∷ others) complete = has_other_status status (found ∷ others)
+
+-- the line where one outcome is expected, and that isn't so
+abbrev pub expected_one_text : Bool → List Found → Bool → List ℕ
+expected_one_text expected all complete = if expected && contradicts_one all complete then codes "EXPECTED ONE OUTCOME\n" else []
+
+-- the line where a status is expected, and that isn't so
+abbrev pub expected_status_text : Option ℕ → List Found → Bool → List ℕ
+expected_status_text None all complete = []
+expected_status_text (Some status) all complete =
+    if contradicts_status status all complete then codes "EXPECTED STATUS " ++ decimal status ++ codes "\n" else []
+
+abbrev pub unexpected_text : ExploreOptions → List Found → Bool → List ℕ
+unexpected_text options all complete =
+    expected_one_text options.expect_one all complete ++ expected_status_text options.expect_status all complete
+
+-- ---- what is written
+
+-- by the lines of what isn't as expected; where there are none a search that is cut short ends as a run at its step limit
+abbrev pub explored_status : List ℕ → Bool → Status
+explored_status [] true = Done
+explored_status [] false = StepLimit
+explored_status (c ∷ cs) complete = Unexpected
+
+abbrev pub outcome_of_exploration : ExploreOptions → Exploration → Outcome
+outcome_of_exploration options e =
+    let unexpected = unexpected_text options e.found.items e.complete in
+    record {
+      output = explored_text e.found.items e.states e.complete ++ unexpected;
+      messages = [];
+      status = explored_status unexpected e.complete;
+      history = [];
+    }
+
+-- these outcomes were found, and are written, with the number of states and with what isn't as expected; the search was cut short only
+-- where as many states were found as options allow, or a run found no gap for a frame
 pub record IsWrittenOf (options : ExploreOptions) (found : List Found) (program : Units) (o : Outcome) : Type 0 where
   pub exploration : Exploration
   pub explored : IsExplored program options.arena exploration.found.items exploration.complete
   pub states : HaveStates program options.arena exploration.states exploration.found.items exploration.complete
   pub cut : exploration.complete ≡ false → IsCutBy program options.arena options.states exploration.states
   pub found_is : found ≡ exploration.found.items
-  pub outcome : o ≡ outcome_of_exploration exploration
+  pub outcome : o ≡ outcome_of_exploration options exploration
 
 -- the outcome of a search of a source: why it isn't run, or its outcomes
 abbrev pub IsExploredOutcome : Bool → ExploreOptions → List Found → List ℕ → Outcome → Type 0

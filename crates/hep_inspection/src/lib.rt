@@ -18,10 +18,10 @@ pub use cover::cover_noted;
 pub use cover_options::CoverOptions;
 pub use diff::{DiffOptions, diff_noted};
 pub use explore::{Explored, choices_history, explore_bytes};
-pub use explore_options::ExploreOptions;
+pub use explore_options::{ExploreOptions, ExploreRequest};
 pub use hep_core::Core;
 pub use hep_cover::{Choices, HistFault, read_text};
-pub use hep_explore::MOST_STEPS;
+pub use hep_explore::{MOST_STEPS, SearchObserver};
 pub use hep_outcome::nth_options;
 pub use hep_page::state_text;
 pub use hep_run::{

@@ -25,6 +25,8 @@ pub enum Status {
     DeviceFailed,
     /// A race was found.
     Raced,
+    /// The outcomes that a search found aren't those that were expected.
+    Unexpected,
 }
 
 impl Status {
@@ -43,6 +45,7 @@ impl Status {
             Status::NoMemory => 7,
             Status::DeviceFailed => 8,
             Status::Raced => 9,
+            Status::Unexpected => 10,
         }
     }
 }

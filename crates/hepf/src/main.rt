@@ -13,13 +13,14 @@ use hep_command::{
 use hep_formats::{TextKind, color_text};
 use hep_inspection::{
     Check, Choices, Command, CommandRequest, CoverOptions, DiagnosticFormat, DiagnosticsRequest,
-    DiffOptions, ExploreOptions, Explored, HistFault, Inspection, InspectionOptions, LineFilter,
-    List, LotOptions, MOST_STEPS, NoGate, Observer, Options, Origin, RacesOptions, ReadFault,
-    ReplayOptions, Run, SampleOptions, SampleRequest, Warn, WorkOptions, WorkRequest, answer,
-    choices_history, choices_of, deliver_source, diagnostics_source, explore_bytes, followed_of,
-    history_text, lots_history, nth_options, put_text, read_text, read_text_file, sample_bytes,
-    say_unread, say_unwritten, work_noted,
+    DiffOptions, ExploreOptions, ExploreRequest, Explored, HistFault, Inspection,
+    InspectionOptions, LineFilter, List, LotOptions, MOST_STEPS, NoGate, Observer, Options, Origin,
+    RacesOptions, ReadFault, ReplayOptions, Run, SampleOptions, SampleRequest, SearchObserver,
+    Warn, WorkOptions, WorkRequest, answer, choices_history, choices_of, deliver_source,
+    diagnostics_source, explore_bytes, followed_of, history_text, lots_history, nth_options,
+    put_text, read_text, read_text_file, sample_bytes, say_unread, say_unwritten, work_noted,
 };
+use std::alloc::AllocError;
 use std::cell::Cell;
 use std::env::VarError;
 use std::fs::File;
@@ -98,8 +99,8 @@ struct Plan<'a> {
     marks: Marks,
 }
 
-/// Says on standard error how many runs of a sample were made: at a terminal in a line that is written over, and taken away at the end,
-/// and elsewhere in lines.
+/// Says on standard error how many runs of a sample were made, or how many states were found: at a terminal in a line that is written over,
+/// and taken away at the end, and elsewhere in lines.
 #[derive(Drop)]
 struct Progress<'a> {
     rt: &'a HostRuntime,
@@ -124,6 +125,12 @@ struct SampleWatch<'a> {
     long: bool,
     /// The status of the first history that wasn't kept; 0 where all were.
     status: Cell<u8>,
+}
+
+/// Says how many states a search has found.
+#[derive(Drop)]
+struct SearchWatch<'a> {
+    progress: Option<Progress<'a>>,
 }
 
 /// The entries of a page: the first one whose steps are shown, counted from 1, and the last one that is made.
@@ -568,13 +575,16 @@ impl Progress<'_> {
         true
     }
 
-    // Says how many runs were made.
-    fn put(&self, made: u32, all: u32) {
+    // Writes a line, if memory wasn't refused for it.
+    fn put(&self, line: Result<String, AllocError>) {
+        let Ok(line) = line else {
+            return;
+        };
         let alloc = self.rt.alloc();
         let text = if self.is_terminal {
-            format!(in alloc; "\r\x1b[K{made} of {all} runs made")
+            format!(in alloc; "\r\x1b[K{line}")
         } else {
-            format!(in alloc; "{made} of {all} runs made\n")
+            format!(in alloc; "{line}\n")
         };
         if let Ok(text) = text {
             self.is_shown.set(self.is_terminal);
@@ -583,16 +593,23 @@ impl Progress<'_> {
     }
 
     // Says how many runs were made, where it is time to. At the end a terminal loses the line, and else there is a last one.
-    fn say(&self, made: u32, all: u32) {
+    fn say_runs(&self, made: u32, all: u32) {
         if made == all && self.is_terminal {
             self.take_away();
         } else if made == all || self.is_due() {
-            self.put(made, all);
+            self.put(format!(in self.rt.alloc(); "{made} of {all} runs made"));
+        }
+    }
+
+    // Says how many states were found, where it is time to.
+    fn say_states(&self, states: usize) {
+        if self.is_due() {
+            self.put(format!(in self.rt.alloc(); "{states} states found"));
         }
     }
 }
 
-// The progress of a sample, from the first run on where it is asked for, and else at a terminal after two seconds.
+// The progress of a sample or a search, from the beginning on where it is asked for, and else at a terminal after two seconds.
 fn progress_of(rt: &HostRuntime, is_asked: bool) -> Option<Progress<'_>> {
     let is_terminal = rt.stderr().is_terminal() && !is_dumb(rt);
     if !is_asked && !is_terminal {
@@ -645,7 +662,7 @@ impl Observer for SampleWatch<'_> {
             }
         }
         if let Some(progress) = &self.progress {
-            progress.say(made, self.options.runs);
+            progress.say_runs(made, self.options.runs);
         }
     }
 }
@@ -731,14 +748,40 @@ fn keep_chosen(
     }
 }
 
-// Explores a source: writes its outcomes, with marks of color where these are wanted.
+impl SearchWatch<'_> {
+    // Whether a line may have to be taken away before anything is written.
+    fn is_at_terminal(&self) -> bool {
+        match &self.progress {
+            Some(progress) => progress.is_terminal,
+            None => false,
+        }
+    }
+
+    // Takes the line away, if it is there.
+    fn take_away(&self) {
+        if let Some(progress) = &self.progress {
+            progress.take_away();
+        }
+    }
+}
+
+impl SearchObserver for SearchWatch<'_> {
+    fn states_found(&self, states: usize) {
+        if let Some(progress) = &self.progress {
+            progress.say_states(states);
+        }
+    }
+}
+
+// Explores a source: writes its outcomes, with marks of color where these are wanted. Where there are marks, or progress is said at a
+// terminal, it is kept until all is made.
 fn explored(
     rt: &HostRuntime,
     source: &[u8],
-    asked: &CommandRequest<'_, ExploreOptions>,
+    asked: &ExploreRequest<'_, SearchWatch<'_>>,
     marks: Marks,
 ) -> Explored {
-    if marks.output.is_none() && !marks.messages {
+    if marks.output.is_none() && !marks.messages && !asked.observer.is_at_terminal() {
         return explore_bytes(
             rt.alloc(),
             source,
@@ -749,6 +792,7 @@ fn explored(
     }
     let (mut output, mut messages) = (Vec::new(rt.alloc()), Vec::new(rt.alloc()));
     let explored = explore_bytes(rt.alloc(), source, asked, &mut output, &mut messages);
+    asked.observer.take_away();
     Explored {
         status: put_streams(rt, &output, &messages, marks, explored.status),
         found: explored.found,
@@ -760,10 +804,11 @@ fn explore_file(
     rt: &HostRuntime,
     file: &str,
     asked: &CommandRequest<'_, ExploreOptions>,
-    keep: Option<&str>,
+    watched: (Option<&str>, bool),
     screen: Screen,
 ) -> Result<u8, u8> {
     let (options, long) = (asked.options, asked.long);
+    let (keep, progress) = watched;
     let source = read_text_file(
         rt.alloc(),
         &mut source_of(rt, file, long)?,
@@ -773,7 +818,15 @@ fn explore_file(
         look_at_first(rt, file, prefix, 1, long)?;
     }
     let marks = marks_of(screen, Some(TextKind::Outcome));
-    let explored = explored(rt, &source, asked, marks);
+    let observer = SearchWatch {
+        progress: progress_of(rt, progress),
+    };
+    let asked = ExploreRequest {
+        options,
+        long,
+        observer: &observer,
+    };
+    let explored = explored(rt, &source, &asked, marks);
     let Some(prefix) = keep else {
         return Ok(explored.status);
     };
@@ -1363,13 +1416,21 @@ fn done<H: Threads + Wait + Sync>(
             states,
             arena,
             keep,
+            progress,
+            expect_one,
+            expect_status,
         } => {
-            let options = ExploreOptions { arena, states };
+            let options = ExploreOptions {
+                arena,
+                states,
+                expect_one,
+                expect_status,
+            };
             let asked = CommandRequest {
                 options: &options,
                 long,
             };
-            explore_file(rt, file, &asked, keep, screen)
+            explore_file(rt, file, &asked, (keep, progress), screen)
         }
         Job::State { .. }
         | Job::Trace { .. }

@@ -4,10 +4,10 @@ use Rattle.hep_explore.proofs.NoOther.{done_by}
 use Rattle.hep_explore.proofs.exploration.search_within.Goals as goal
 
 pub search_in-requires : goal.search_in-requires
-search_in-requires c = (omega arith, omega arith, sym c.fits.ensures ∙ c.if-fits.true)
+search_in-requires g c = (omega arith, omega arith, sym c.fits.ensures ∙ c.if-fits.true)
 
 pub returns-then-not-is_full : goal.returns-then-not-is_full
-returns-then-not-is_full c =
+returns-then-not-is_full g c =
     let is = c.in_ok-search.ensures in
     let s = known_of c.in_ok-search.search in
     let none = c.is_full.ensures c.if-not-is_full.true in
@@ -21,7 +21,7 @@ returns-then-not-is_full c =
     }
 
 pub returns : goal.returns
-returns c =
+returns g c =
     let is = c.in_ok-search_in.ensures in
     let s = known_of c.in_ok-search_in.field-0 in
     record {

@@ -18,7 +18,7 @@ unsearched long options found source (Refused number line name notes) o why told
     inl (number, line, name, notes, why.0, why.1, told)
 
 pub returns-in_ok-transcript-in-Ok : goal.returns-in_ok-transcript-in-Ok
-returns-in_ok-transcript-in-Ok c =
+returns-in_ok-transcript-in-Ok g c =
     let is = c.in_ok-explored-in-Ok.ensures in
     inr (
       _,
@@ -34,6 +34,6 @@ returns-in_ok-transcript-in-Ok c =
     )
 
 pub returns-in_ok-fault_transcript-in-Err : goal.returns-in_ok-fault_transcript-in-Err
-returns-in_ok-fault_transcript-in-Err c =
+returns-in_ok-fault_transcript-in-Err g c =
     unsearched c.args.asked.now.long c.args.asked.now.options.now c.new.result.items c.args.source.now c.in-Err.fault
     (outcome_of c.in_ok-fault_transcript-in-Err.field-0) c.in-Err.ensures.refused c.in_ok-fault_transcript-in-Err.ensures.made

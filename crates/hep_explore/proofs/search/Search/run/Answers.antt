@@ -4,10 +4,10 @@ use Rattle.hep_explore.proofs.SearchedStates.{expanded_on}
 use Rattle.hep_explore.proofs.search.Search.run.Goals as goal
 
 pub next-requires : goal.next-requires
-next-requires c = (c.args.image.now, c.loop-self.invariant.search)
+next-requires g c = (c.args.image.now, c.loop-self.invariant.search)
 
 pub expand-requires : goal.expand-requires
-expand-requires c =
+expand-requires g c =
     let program = c.args.image.now in
     let s = known_of c.loop-self.self in
     let new = known_of c.next.new.self in
@@ -20,7 +20,7 @@ expand-requires c =
     }
 
 pub loop-self-preserved : goal.loop-self-preserved
-loop-self-preserved c =
+loop-self-preserved g c =
     let program = c.args.image.now in
     let new = known_of c.expand.new.self in
     let one = c.in-Some.ensures.counted in
