@@ -1,5 +1,5 @@
 -- What is written of all outcomes of a source: docs/RUNS.md, "All outcomes".
-use Rattle.std.specs.Prelude.{◌≡◌, ◌++◌, ◌∷◌, ◌&&◌, ℕ, Bool, true, false, if◌then◌else◌, not, nat_eq, List, [], Option, Some, None, codes}
+use Rattle.std.specs.Prelude.{◌≡◌, ◌≤◌, ◌+◌, ◌++◌, ◌∷◌, ◌&&◌, ℕ, Bool, true, false, if◌then◌else◌, not, nat_eq, List, [], Option, Some, None, codes}
 use Rattle.std.specs.Fmt.{decimal}
 use Rattle.std.specs.List.{list_any}
 use Rattle.hep_machine.specs.Words.{Units}
@@ -63,12 +63,13 @@ outcome_of_exploration options e =
       history = [];
     }
 
--- these outcomes were found, and are written, with the number of states and with what isn't as expected; the search was cut short only
--- where as many states were found as options allow, or a run found no gap for a frame
+-- these outcomes were found, and are written, with the number of states, which are no more than options allow, but for the opening, and with
+-- what isn't as expected; the search was cut short only where as many states were found, or a run found no gap for a frame
 pub record IsWrittenOf (options : ExploreOptions) (found : List Found) (program : Units) (o : Outcome) : Type 0 where
   pub exploration : Exploration
   pub explored : IsExplored program options.arena exploration.found.items exploration.complete
   pub states : HaveStates program options.arena exploration.states exploration.found.items exploration.complete
+  pub few : exploration.states ≤ options.states + 1
   pub cut : exploration.complete ≡ false → IsCutBy program options.arena options.states exploration.states
   pub found_is : found ≡ exploration.found.items
   pub outcome : o ≡ outcome_of_exploration options exploration

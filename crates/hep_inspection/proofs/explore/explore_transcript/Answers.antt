@@ -27,6 +27,7 @@ returns-in_ok-transcript-in-Ok g c =
         exploration = c.in_ok-explored-in-Ok.explored;
         explored = is.explored;
         states = is.states;
+        few = is.few;
         cut = is.cut;
         found_is = refl;
         outcome = c.in_ok-transcript-in-Ok.ensures;
