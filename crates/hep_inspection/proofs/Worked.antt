@@ -1,5 +1,6 @@
 -- What is expected of the outcomes of a search, row by row.
 use Rattle.std.proofs.Common.{◌≡◌, ◌∷◌, ℕ, [], Some, None, codes, false, refl, true}
+use Rattle.std.specs.Fmt.{digits}
 use Rattle.hep_explore.specs.Explored.{Found}
 use Rattle.hep_outcome.specs.declared.status.Status.TheVariants.{Done, StepLimit, Unexpected}
 use Rattle.hep_inspection.specs.Explorations.{contradicts_one, contradicts_status, expected_one_text, expected_status_text, explored_status}
@@ -40,6 +41,7 @@ none_expected : expected_one_text false (ended 0 ∷ ended 4 ∷ []) true ≡ []
 none_expected = refl
 
 line_of_status : expected_status_text (Some 4) (ended 0 ∷ []) true ≡ codes "EXPECTED STATUS 4\n"
+unfolding digits
 line_of_status = refl
 
 no_status_expected : expected_status_text None (ended 0 ∷ []) true ≡ []
