@@ -10,6 +10,7 @@ pub mod key_laws;
 mod key_parts;
 mod key_processes;
 pub mod laws;
+mod pure_steps;
 pub mod search;
 pub mod states;
 pub mod successor;
