@@ -1,7 +1,7 @@
 //! Whether the next step of a process is pure: whether it applies an operator or a function of integers, or only chooses which statement
 //! comes next, and is no fault.
-ghost use Rattle.std.specs.Prelude.{◌≡◌, IfOk, false, true};
-ghost use Rattle.hep_state.specs.Words.{HasLevels, IsReached, snapshot_of};
+ghost use Rattle.std.specs.Prelude.{◌≡◌, IfOk, true};
+ghost use Rattle.hep_state.specs.Words.{IsItsTurn};
 ghost use Rattle.hep_explore.specs.Pure as words;
 ghost use Rattle.hep_explore.specs.Successors.{IsPureAhead};
 
@@ -50,7 +50,7 @@ fn is_pure_operation(operation: Operation, operands: &[Value]) -> bool
     }
 }
 
-/// Whether the next step of process p, which lives, is pure.
+/// Whether the next step of process p, whose turn it is, is pure.
 ///
 /// # Errors
 ///
@@ -61,9 +61,7 @@ pub(crate) fn is_next_pure(
     machine: &CoreState,
     p: u64,
 ) -> Result<bool, AllocError>
-    requires reached { IsReached image.now machine.now }
-    requires running { machine.now.halted ≡ false }
-    requires living { HasLevels (snapshot_of machine.now) p }
+    requires { IsItsTurn image.now p machine.now }
     ensures { IfOk result (λ pure. pure ≡ true → IsPureAhead image.now p machine.now) }
 {
     image.is_runnable();

@@ -1,6 +1,6 @@
 //! The machine after one step of a process, beside the machine before it, and after the pure steps that come next.
 ghost use Rattle.std.specs.Prelude.{◌≡◌, ◌<◌, ◌≤◌, ◌+◌, ◌^◌, false, if◌then◌else◌, IfOk, OnOk};
-ghost use Rattle.hep_state.specs.Words.{HasLevels, IsReached, snapshot_of};
+ghost use Rattle.hep_state.specs.Words.{IsItsTurn, IsReached};
 ghost use Rattle.hep_explore.specs.Successors.{IsPureAhead, IsSuccessor, MakesPureSteps};
 
 use crate::pure_steps::is_next_pure;
@@ -10,7 +10,7 @@ use hep_image::Image;
 use hep_state::{CoreState, TurnFault, TurnOutcome};
 use std::alloc::{AllocError, Global};
 
-/// The most pure steps that are made after another step of their process. So a process in a loop without other steps is left at last.
+/// The most pure steps that are made after another step of their process. A loop may have pure steps alone.
 pub const MOST_PURE_STEPS: u64 = 1000;
 
 /// What a step of a process makes of a machine.
@@ -89,10 +89,8 @@ impl Turns {
         machine: &mut CoreState,
         p: u64,
     ) -> Result<(), AllocError>
-        requires reached { IsReached image.now machine.old }
+        requires turn { IsItsTurn image.now p machine.old }
         requires pure { IsPureAhead image.now p machine.old }
-        requires running { machine.old.halted ≡ false }
-        requires living { HasLevels (snapshot_of machine.old) p }
         requires countable { machine.old.activations + 1 < 2 ^ 64 }
         requires numerable { machine.old.made + 1 < 2 ^ 64 }
         ensures { OnOk result (MakesPureSteps image.now p machine.old 1 machine.new) }

@@ -4,8 +4,8 @@ use Rattle.hep_explore.proofs.PureAhead.{pure_ahead}
 use Rattle.hep_event.proofs.TopPositions.{settled-there, settled-turn}
 use Rattle.hep_explore.proofs.pure_steps.is_next_pure.Goals as goal
 
-pub coming_of-requires-clause-after : goal.coming_of-requires-clause-after
-coming_of-requires-clause-after c = c.requires.reached
+pub coming_of-requires : goal.coming_of-requires
+coming_of-requires c = record { levels = c.requires.living; after = c.requires.after }
 
 pub returns : goal.returns
 returns c = λ yes cells before after.

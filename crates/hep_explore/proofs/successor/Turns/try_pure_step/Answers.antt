@@ -15,15 +15,17 @@ returns-then-not-branch c = no_pure_steps c.args.image.now c.args.p c.args.machi
 
 pub is_next_pure-requires : goal.is_next_pure-requires
 is_next_pure-requires c =
-    record { reached = c.requires.reached; running = c.if-machine.false; living = c.lives.ensures.levels c.if-not-lives.false }
+    record { after = c.requires.reached; running = c.if-machine.false; living = c.lives.ensures.levels c.if-not-lives.false }
 
 pub make_pure_step-requires : goal.make_pure_step-requires
 make_pure_step-requires c =
     record {
-      reached = c.requires.reached;
+      turn = record {
+        after = c.requires.reached;
+        running = c.if-machine.false;
+        living = c.lives.ensures.levels c.if-not-lives.false;
+      };
       pure = c.in_ok-is_next_pure.ensures c.if-not-branch.false;
-      running = c.if-machine.false;
-      living = c.lives.ensures.levels c.if-not-lives.false;
       countable = c.requires.countable;
       numerable = c.requires.numerable;
     }
