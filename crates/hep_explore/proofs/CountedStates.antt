@@ -1,5 +1,5 @@
 -- How many states a search has found: steps lead to each of them, no two are the same, and each that has ended is listed.
-use Rattle.std.proofs.Common.{◌≡◌, ℕ, Bool, true, true≢false, List, [], length, None, is_some, refl, sym, ap, ◌∙◌, subst, arith}
+use Rattle.std.proofs.Common.{◌≡◌, ℕ, Bool, true, true≢false, List, [], length, None, IsSome, is_some, refl, sym, ap, ◌∙◌, subst, arith}
 use Rattle.std.proofs.lemmas.Option.{none-some, same_Some, slice_get_within}
 use Rattle.hep_machine.specs.Words.{Units, is_held, layout_of, opening, opening_layout}
 use Rattle.hep_machine.specs.Layout.{placing_from}
@@ -8,7 +8,7 @@ use Rattle.hep_explore.specs.CountedStates.{HaveStates}
 use Rattle.hep_explore.specs.Explored.{Found}
 use Rattle.hep_explore.specs.FoundOutcomes.{AreListed}
 use Rattle.hep_explore.specs.Searching.{IsKept, IsSearchWithin, IsWhole, Known}
-use Rattle.hep_explore.proofs.NoOther.{found_all}
+use Rattle.hep_explore.proofs.NoOther.{leads_among, stopped_among}
 use Rattle.hep_explore.proofs.Paths.{has_path}
 
 -- those that a search has found are all where each is expanded and no step was left out
@@ -42,9 +42,10 @@ search_states program cells most s within all listed complete is_whole =
             kept = subst (IsKept program s.cells one.choices) same one.path.kept;
             listed = one.listed;
           };
-      no_other = λ is choices made laid.
-          let found = found_all program s within.search within.expanded (is_whole is) within.done choices made in
-          (found.number, found.key, found.numbered, found.kept);
+      no_other = λ is choices made laid going.
+          leads_among program s within.search within.expanded (is_whole is) within.done choices made going;
+      stopped = λ is choices made laid halted.
+          stopped_among program s within.search within.expanded (is_whole is) within.done choices halted;
     }
 
 -- there are none where the main program's frame doesn't fit the arena
@@ -59,10 +60,14 @@ no_states program cells none all complete =
       different = λ i j key here. absurd (none-some key here);
       reached = λ i key here. absurd (none-some key here);
       ended = λ i key before here. absurd (none-some key here);
-      no_other = λ is choices made laid.
-          let unplaced : layout_of program cells is_held choices ≡ None =
-          ap (λ l. (placing_from program cells is_held (record { state = opening program; layout = l }) choices).layout) none
-          ∙ none_stays program cells cells (omega arith) choices (opening program)
-          in
-          absurd (true≢false (sym laid ∙ ap is_some unplaced));
+      no_other = λ is choices made laid going. absurd (unlaid choices laid);
+      stopped = λ is choices made laid halted. absurd (unlaid choices laid);
     }
+  where
+    unlaid : (choices : List ℕ) → IsSome (layout_of program cells is_held choices) → ⊥
+    unlaid choices laid =
+        let unplaced : layout_of program cells is_held choices ≡ None =
+        ap (λ l. (placing_from program cells is_held (record { state = opening program; layout = l }) choices).layout) none
+        ∙ none_stays program cells cells (omega arith) choices (opening program)
+        in
+        true≢false (sym laid ∙ ap is_some unplaced)

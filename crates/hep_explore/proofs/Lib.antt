@@ -9,6 +9,9 @@ pub mod LargerArenas
 pub mod Tables
 pub mod Stacks
 pub mod Pure
+mod PlacedAlong
+mod Reached
+mod PureAhead
 pub mod Finished
 pub mod Texts
 pub mod Outcomes

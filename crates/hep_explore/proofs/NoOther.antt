@@ -1,11 +1,11 @@
 -- Where each step of each state was made, no outcome is possible but those that are listed.
 use Rattle.std.proofs.Common.{◌≡◌, ◌≢◌, ◌⊎◌, inl, inr, ℕ, ◌<◌, ◌≤◌, Bool, true, false, true≢false, List, [], ◌∷◌, ◌++◌, length, Some, None}
 use Rattle.std.proofs.Common.{IsSome, is_some, refl, sym, ap, ◌∙◌, subst, arith, slice_get}
-use Rattle.std.proofs.lemmas.List.{append-nil, append_assoc}
 use Rattle.std.proofs.lemmas.Option.{same_Some, slice_get_within}
 use Rattle.hep_machine.specs.Words.{AreSteps, Units, is_held, layout_of, opening, opening_layout, run, run_from, schedule_of, state_after}
+use Rattle.hep_machine.specs.Words.{step}
 use Rattle.hep_machine.specs.Layout.{placing_from}
-use Rattle.hep_machine.proofs.Replays.{legal_steps, run_after}
+use Rattle.hep_replay.proofs.ReplayTurns.{halted_stays}
 use Rattle.hep_outcome.specs.Outcome.{IsProgramOutcome, Outcome, outcome_of_full_arena}
 use Rattle.hep_outcome.specs.declared.options.Options.{Options}
 use Rattle.hep_outcome.specs.Statuses.{status_code}
@@ -14,11 +14,20 @@ use Rattle.hep_explore.specs.Explored.{Found, IsExplored, IsFoundOf}
 use Rattle.hep_explore.specs.Possible.{IsPossible}
 use Rattle.hep_explore.specs.Texts.{Shows}
 use Rattle.hep_explore.proofs.LargerArenas.{none_stays, same_layout}
+use Rattle.hep_advance.proofs.RunsToBreakpoint.{run-on}
+use Rattle.hep_state.specs.KeptStates.{Shows as Shown}
 use Rattle.hep_state.specs.Words.{IsAfter, Snapshot}
 use Rattle.hep_explore.specs.FoundOutcomes.{AreListed, AreOutcomes, IsListed}
-use Rattle.hep_explore.specs.CountedStates.{IsCutBy}
-use Rattle.hep_explore.specs.Searching.{AreAlikeByKeys, AreExpanded, IsDone, IsEnded, IsFound, IsFullPath, IsKept, IsSearch}
-use Rattle.hep_explore.specs.Searching.{IsSearchWithin, IsWhole, Known}
+use Rattle.hep_explore.specs.CountedStates.{EndsAlikeAmong, IsCutBy, LeadsAmong}
+use Rattle.hep_explore.specs.Searching.{AreAlikeByKeys, AreExpanded, IsDone, IsEnded, IsFound, IsFullPath, IsKept, IsSearch, IsSearchWithin}
+use Rattle.hep_explore.specs.Searching.{IsWhole, Known}
+use Rattle.hep_explore.specs.Pure.{is_pure}
+use Rattle.hep_explore.proofs.Kept.{LeadsTo, endings_are_kept}
+use Rattle.hep_explore.proofs.PlacedAlong.{IsPlacedIn, Placed, halted_after_all, layout_after_all, opening_placed, placed_after}
+use Rattle.hep_explore.proofs.PlacedAlong.{placed_along, placed_of}
+use Rattle.hep_explore.proofs.Pure.{pure_are_independent}
+use Rattle.hep_explore.proofs.Reached.{Arrives, arrives, left_along}
+use Rattle.hep_explore.proofs.Turns.{opening_reachable}
 use Rattle.hep_explore.proofs.RunEnds.{HaveAllGaps, choices_shown, run_ends}
 
 -- all states of one machine end alike
@@ -47,27 +56,119 @@ module _ (program : Units) (s : Known) (search : IsSearch program s) (expanded :
       let count = search.counted in
       omega arith
 
-  -- the state after all steps was found
-  found_from : (before ps : List ℕ) → IsFound program s before → AreSteps program (run program before) ps → IsFound program s (before ++ ps)
-  unfolding run run_from
-  found_from before [] found made = subst (IsFound program s) (sym (append-nil before)) found
-  found_from before (p ∷ ps) found made =
-      let less = is_expanded found.number (slice_get_within s.states found.number found.key found.numbered) in
-      let next = expanded.closed whole found.number p found.key before less found.numbered found.kept made.0 in
-      let there = sym (run_after program (opening program) before (p ∷ [])) in
-      subst (IsFound program s) (append_assoc before (p ∷ []) ps) (
-      found_from (before ++ p ∷ []) ps next (subst (λ t. AreSteps program t ps) there made.1))
+  -- what is kept for choices is the state that was found
+  abbrev Finds : List ℕ → Unit {0} → Type 0
+  Finds choices m = IsFound program s choices
 
-  pub found_all : (ps : List ℕ) → AreSteps program (opening program) ps → IsFound program s ps
+  opening_found : IsFound program s []
+  opening_found = record { number = 0; key = search.opening; numbered = search.opening_is; kept = search.begins }
+
+  -- each step of a state that was found leads to one, with pure steps after it
+  goes_on : (m : Unit {0}) (before : List ℕ) (p : ℕ) → Finds before m → step program p (run program before) ≢ None
+      → LeadsTo program (is_pure program) (Unit {0}) Finds (before ++ p ∷ [])
+  goes_on m before p found some =
+      let less = is_expanded found.number (slice_get_within s.states found.number found.key found.numbered) in
+      let led = expanded.closed whole found.number p found.key before less found.numbered found.kept some in
+      record { steps = led.steps; are_independent = led.are_pure; kept = tt; is_kept = led.found }
+
+  -- so all steps lead to one, up to pure steps
+  abbrev FindsAfter : List ℕ → Type 0
+  FindsAfter =
+      Arrives program (is_pure program) (pure_are_independent program) Placed IsPlacedIn (placed_after program s.cells) (
+      placed_along program s.cells) (Unit {0}) Finds goes_on []
+
+  found_after : (ps : List ℕ) → AreSteps program (opening program) ps → FindsAfter ps
   unfolding run run_from
-  found_all ps made =
-      found_from [] ps (record { number = 0; key = search.opening; numbered = search.opening_is; kept = search.begins }) made
+  found_after ps made =
+      arrives program (is_pure program) (pure_are_independent program) Placed IsPlacedIn (placed_after program s.cells) (
+      placed_along program s.cells) (Unit {0}) Finds goes_on ps [] tt opening_found made
+
+  -- the layout after them is that of the choices for which it was found, and a STOP was made by both or by none
+  module _ (ps : List ℕ) (found : FindsAfter ps) where
+    abbrev begin : Placed
+    begin = placed_of program s.cells (opening program)
+
+    same_layouts : layout_of program s.cells is_held ps ≡ layout_of program s.cells is_held found.turns
+    unfolding run run_from
+    same_layouts =
+        sym (layout_after_all program s.cells ps (opening program) begin)
+        ∙ ap (λ (x : Placed). x.0) (found.meets.same begin (opening_placed program s.cells))
+        ∙ layout_after_all program s.cells found.turns (opening program) begin
+
+    same_halted : (run program ps).halted ≡ (run program found.turns).halted
+    unfolding run run_from
+    same_halted =
+        sym (halted_after_all program s.cells ps (opening program) begin refl)
+        ∙ ap (λ (x : Placed). x.1) (found.meets.same begin (opening_placed program s.cells))
+        ∙ halted_after_all program s.cells found.turns (opening program) begin refl
+
+  -- however the program ends, a state that was found does
+  ends_found : (ps : List ℕ) → IsTerminal program (run program ps)
+      → (before : List ℕ) × IsFound program s before × IsTerminal program (run program before)
+      × (ending_of program (run program ps) ≡ ending_of program (run program before))
+  ends_found ps terminal =
+      let begins : LeadsTo program (is_pure program) (Unit {0}) Finds [] =
+      record { steps = []; are_independent = tt; kept = tt; is_kept = opening_found }
+      in
+      let kept = endings_are_kept program (is_pure program) (pure_are_independent program) (Unit {0}) Finds begins goes_on (
+      ending_of program (run program ps)) (run program ps, (ps, refl), terminal, refl)
+      in
+      (kept.1, kept.2, kept.3, kept.4)
+
+  -- so one does after a STOP
+  pub stopped_among : (ps : List ℕ) → (run program ps).halted ≡ true → EndsAlikeAmong program s.cells s.states ps
+  stopped_among ps halted =
+      let kept = ends_found ps (λ p. halted_stays program p (run program ps) halted) in
+      let found = kept.1 in
+      (kept.0, (found.number, found.key, found.numbered, found.kept), sym kept.3)
+
+  -- after steps without a STOP pure steps lead to a state that was found
+  pub leads_among : (ps : List ℕ) → AreSteps program (opening program) ps → (run program ps).halted ≡ false
+      → LeadsAmong program s.cells s.states ps
+  unfolding run run_from
+  leads_among ps made going =
+      let found = found_after ps made in
+      let left = found.meets.left (sym (same_halted ps found) ∙ going) in
+      let qs : List ℕ = left.0 in
+      let kept = found.is_kept.kept in
+      let there : run program found.turns ≡ run program (ps ++ qs) = sym (run-on program ps qs ∙ left.2) in
+      let begin : Placed = placed_of program s.cells (opening program) in
+      let placed = opening_placed program s.cells in
+      let same =
+      left_along program (is_pure program) (pure_are_independent program) Placed IsPlacedIn (placed_after program s.cells) (
+      placed_along program s.cells) ps qs (opening program) begin (opening_reachable program) made placed left.1
+      in
+      let laid : layout_of program s.cells is_held (ps ++ qs) ≡ layout_of program s.cells is_held ps =
+      sym (layout_after_all program s.cells (ps ++ qs) (opening program) begin)
+      ∙ ap (λ (x : Placed). x.0) same
+      ∙ layout_after_all program s.cells ps (opening program) begin
+      in
+      record {
+        steps = qs;
+        are_pure = left.1;
+        among = (
+          found.is_kept.number,
+          found.is_kept.key,
+          found.is_kept.numbered,
+          record {
+            machine = kept.machine;
+            is_key = kept.is_key;
+            after = record {
+              layout = kept.after.layout;
+              laid = laid ∙ same_layouts ps found ∙ kept.after.laid;
+              size = kept.after.size;
+              shows = subst (λ t. Shown program t kept.after.layout kept.machine) there kept.after.shows;
+            };
+          },
+        );
+      }
 
   -- so each frame has a gap, also in a larger arena
   pub have_gaps : (cells : ℕ) → s.cells ≤ cells → HaveAllGaps program cells
   have_gaps cells le ps made =
-      let after = (found_all ps made).kept.after in
-      ap is_some (same_layout program s.cells cells le ps after.layout after.laid)
+      let found = found_after ps made in
+      let after = found.is_kept.kept.after in
+      ap is_some (same_layout program s.cells cells le ps after.layout (same_layouts ps found ∙ after.laid))
 
   module _ (cells : ℕ) (le : s.cells ≤ cells) (alike : AreAlikeByKeys program) (end_alike : EndAlike program) (all : List Found)
       (listed : AreListed program cells s (length s.ended) all) (o : Outcome) (possible : IsPossible program cells o) where
@@ -111,12 +212,13 @@ module _ (program : Units) (s : Known) (search : IsSearch program s) (expanded :
         let gaps = gaps_of possible.options.arena possible.arena in
         let ends = run_ends program possible.options gaps o possible.outcome possible.unlimited possible.accepted in
         let ps = schedule_of ends.history in
-        let made = legal_steps program possible.options.arena possible.options.steps ends.history ends.is.legal in
-        let found = found_all ps made in
+        let kept = ends_found ps ends.terminal in
+        let found = kept.1 in
         let less = is_expanded found.number (slice_get_within s.states found.number found.key found.numbered) in
-        let ended = expanded.all found.number found.key ps less found.numbered found.kept ends.terminal in
+        let ended = expanded.all found.number found.key kept.0 less found.numbered found.kept kept.2 in
         let k = slice_get_within s.ended ended.0 found.number ended.1 in
-        by_listed ps ends.shows found.number found.key found.numbered found.kept ended (listed ended.0 found.number k ended.1)
+        by_listed kept.0 (subst (λ e. Shows program e o) kept.3 ends.shows) found.number found.key found.numbered found.kept ended (
+        listed ended.0 found.number k ended.1)
 
 -- ---- what is explored
 

@@ -5,11 +5,11 @@ use Rattle.std.specs.Option.{option_map, unwrap_or}
 use Rattle.std.specs.Result.{result_ok}
 use Rattle.std.proofs.lemmas.Option.{none-some, same_Some}
 use Rattle.hep_machine.specs.declared.event.Kind.{Kind}
-use Rattle.hep_machine.specs.Words.{Action, IsOnStack, Level, Next, Process, RedexOrReference, State, Store, Top, Units, Value, answer_of, continuing}
-use Rattle.hep_machine.specs.Words.{does, evaluating, jumping, choosing, branching, testing_condition, entering_block, wants, referring}
-use Rattle.hep_machine.specs.Words.{activations_on, is_number_among, living, next_of, no_activation, numbered, result_after_action}
-use Rattle.hep_machine.specs.Words.{result_after_answer, result_after_next, scope_of, step, step_result_of, step_result_of_top, stepped}
-use Rattle.hep_machine.specs.Words.{top_of, unit_at, unit_of, unit_on_top, with_process, IsSameOrOneMore}
+use Rattle.hep_machine.specs.Words.{Action, IsOnStack, Level, Next, Process, RedexOrReference, State, Store, Top, Units, Value, answer_of}
+use Rattle.hep_machine.specs.Words.{continuing, does, evaluating, jumping, choosing, branching, testing_condition, entering_block, wants}
+use Rattle.hep_machine.specs.Words.{referring, activations_on, is_number_among, living, next_of, no_activation, numbered}
+use Rattle.hep_machine.specs.Words.{result_after_action, result_after_answer, result_after_next, scope_of, step, step_result_of}
+use Rattle.hep_machine.specs.Words.{step_result_of_top, stepped, top_of, unit_at, unit_of, unit_on_top, with_process, IsSameOrOneMore}
 use Rattle.hep_machine.specs.Step.{gives, by_result, result_after_sought, state_with_level}
 use Rattle.hep_machine.specs.Arithmetic.{combined_value, function_value, negated_value, signed_value}
 use Rattle.hep_machine.specs.Views.{process_views_from}
@@ -86,12 +86,12 @@ module _ (program : Units) where
 
   -- ---- one that comes next
 
-  record IsPure (q : ℕ) (s : State) : Type 0 where
-    going : s.halted ≡ false
-    stack : Process
-    after : stack_after_pure program s (living s q) ≡ Some stack
+  pub record IsPure (q : ℕ) (s : State) : Type 0 where
+    pub going : s.halted ≡ false
+    pub stack : Process
+    pub after : stack_after_pure program s (living s q) ≡ Some stack
 
-  pure_is : (q : ℕ) (s : State) → is_pure program q s ≡ true → IsPure q s
+  pub pure_is : (q : ℕ) (s : State) → is_pure program q s ≡ true → IsPure q s
   pure_is q s e = by_halted s.halted refl e where
     by_stack : s.halted ≡ false → (o : Option Process) → stack_after_pure program s (living s q) ≡ o → is_some o ≡ true → IsPure q s
     by_stack going None f g = absurd cc
@@ -104,13 +104,13 @@ module _ (program : Units) where
   is_so : (q : ℕ) (s : State) → IsPure q s → is_pure program q s ≡ true
   is_so q s pure = ap (λ h. if h then false else is_some (stack_after_pure program s (living s q))) pure.going ∙ ap is_some pure.after
 
-  pure_step : (q : ℕ) (s : State) (pure : IsPure q s) → step program q s ≡ Some (moved q pure.stack s)
+  pub pure_step : (q : ℕ) (s : State) (pure : IsPure q s) → step program q s ≡ Some (moved q pure.stack s)
   unfolding step_result_of
   pure_step q s pure = step-is program q s (with_process s q pure.stack) pure.going (of_stack q s (living s q) pure.stack pure.after)
 
   -- ---- its process is there
 
-  top_there : (o : Option Process) (top : Level × Process) → top_of o ≡ Some top → o ≡ Some (top.0 ∷ top.1)
+  pub top_there : (o : Option Process) (top : Level × Process) → top_of o ≡ Some top → o ≡ Some (top.0 ∷ top.1)
   top_there None top e = absurd (none-some top e)
   top_there (Some []) top e = absurd (none-some top e)
   top_there (Some (l ∷ ls)) top e = ap (λ (t : Level × Process). Some (t.0 ∷ t.1)) (same_Some (l, ls) top e)
@@ -120,7 +120,7 @@ module _ (program : Units) where
   some_within (y ∷ ys) zero x e = omega arith
   some_within (y ∷ ys) (suc i) x e = let rest = some_within ys i x e in omega arith
 
-  number_within : {A : Type 0} (xs : List A) (q : ℕ) (x : A) → numbered xs q ≡ Some x → (1 ≤ q) × (q ≤ length xs)
+  pub number_within : {A : Type 0} (xs : List A) (q : ℕ) (x : A) → numbered xs q ≡ Some x → (1 ≤ q) × (q ≤ length xs)
   number_within xs zero x e = absurd (none-some x e)
   number_within xs (suc i) x e = let within = some_within xs i x e in (omega arith, omega arith)
 
@@ -159,7 +159,8 @@ module _ (program : Units) where
         let same = same_stack (living s q) pure.stack refl pure.after in
         (record { going = going; stack = pure.stack; after = ap (stack_after_pure program t) same.0 ∙ same.1 ∙ pure.after }, refl)
 
-    beside : (pure : IsPure q s) → step program p (moved q pure.stack s) ≡ Some (moved q pure.stack t)
+    -- another process makes the same step before and after it
+    pub beside : (pure : IsPure q s) → step program p (moved q pure.stack s) ≡ Some (moved q pure.stack t)
     beside pure = by_top (living s q) refl pure.after where
       by_top : (top : Option (Level × Process)) → living s q ≡ top → stack_after_pure program s top ≡ Some pure.stack
           → step program p (moved q pure.stack s) ≡ Some (moved q pure.stack t)
@@ -170,7 +171,7 @@ module _ (program : Units) where
 
   -- ---- they are independent
 
-  made_is : (q : ℕ) (s u : State) (pure : IsPure q s) → step program q s ≡ Some u → moved q pure.stack s ≡ u
+  pub made_is : (q : ℕ) (s u : State) (pure : IsPure q s) → step program q s ≡ Some u → moved q pure.stack s ≡ u
   made_is q s u pure e = same_Some (moved q pure.stack s) u (sym (pure_step q s pure) ∙ e)
 
   stopped_alike : (q : ℕ) (stack : Process) (t : State) → t.halted ≡ true → ending_of program (moved q stack t) ≡ ending_of program t

@@ -1,7 +1,6 @@
 -- A search that goes on: it still is one, and its first states stay expanded.
-use Rattle.std.proofs.Common.{◌≡◌, ◌≢◌, ◌⊎◌, inl, inr, ℕ, zero, suc, true, true≢false, ◌+◌, ◌<◌, ◌≤◌, false, ◌||◌, not, List, [], ◌∷◌}
-use Rattle.std.proofs.Common.{◌++◌, length, Bool, Option}
-use Rattle.std.proofs.Common.{Some, None, get_or, refl, sym, ap, ◌∙◌, subst, arith, slice_get}
+use Rattle.std.proofs.Common.{◌≡◌, ◌≢◌, ◌⊎◌, inl, inr, ℕ, zero, suc, true, true≢false, ◌+◌, ◌<◌, ◌≤◌, false, ◌||◌, not, List, [], ◌∷◌, ◌++◌}
+use Rattle.std.proofs.Common.{length, Bool, Option, Some, None, get_or, refl, sym, ap, ◌∙◌, subst, arith, slice_get}
 use Rattle.std.specs.Option.{unwrap_or}
 use Rattle.std.proofs.lemmas.Bool.{not-false, or_parts}
 use Rattle.std.proofs.lemmas.List.{length-append}
@@ -13,7 +12,7 @@ use Rattle.hep_state.specs.declared.core_state.CoreState.{CoreState}
 use Rattle.hep_state.specs.Words.{HasNoGap, IsMachineAfter, snapshot_of}
 use Rattle.hep_explore.specs.Keys.{IsKeyOf}
 use Rattle.hep_explore.specs.Searching.{AreAlikeByKeys, AreExpanded, GoesOn, HasKey, IsEnded, IsFound, IsFullStep, IsKept, IsNumbered}
-use Rattle.hep_explore.specs.Searching.{IsOrigin, IsSearch, IsVisit, IsWhole, KeepsStates, Known}
+use Rattle.hep_explore.specs.Searching.{IsOrigin, IsSearch, IsVisit, IsWhole, KeepsStates, Known, Leads, LeadsToFound, pure_turns}
 use Rattle.hep_explore.specs.declared.search.Origin.{Origin}
 
 -- ---- machines with one key
@@ -35,6 +34,18 @@ module _ (program : Units) (alike : AreAlikeByKeys program) (cells : ℕ) (m : C
 pub machine_kept : (program : Units) (cells : ℕ) (m : CoreState) (key before : List ℕ) → IsKeyOf program (snapshot_of m) key
     → IsMachineAfter program cells before m → IsKept program cells before key
 machine_kept program cells m key before is_key after = record { machine = snapshot_of m; is_key = is_key; after = after.after }
+
+-- ---- what steps lead to
+
+-- what is so of all choices that lead to a machine is so of those to which steps lead
+pub leads_on : (program : Units) (before : List ℕ) (o : Origin) (IsSo IsThen : List ℕ → Type 0)
+    → ((choices : List ℕ) → IsSo choices → IsThen choices) → Leads program before o IsSo → Leads program before o IsThen
+leads_on program before o IsSo IsThen on led =
+    record {
+      stepped = led.stepped;
+      are_pure = led.are_pure;
+      holds = on ((before ++ o.process ∷ []) ++ pure_turns o) led.holds;
+    }
 
 -- ---- a search that goes on
 
@@ -71,6 +82,9 @@ module _ (program : Units) (old new : Known) (on : KeepsStates old new) where
         kept = kept_on before found.key found.kept;
       }
 
+  pub led_on : (before : List ℕ) → LeadsToFound program old before → LeadsToFound program new before
+  led_on before led = record { steps = led.steps; are_pure = led.are_pure; found = found_on (before ++ led.steps) led.found }
+
   pub numbered_on : (i : ℕ) (m : CoreState) → IsNumbered program old i m → IsNumbered program new i m
   numbered_on i m numbered =
       record {
@@ -90,8 +104,8 @@ module _ (program : Units) (old new : Known) (on : KeepsStates old new) where
         from_is = on.states o.from origin.from origin.from_is;
         to_is = on.states i origin.to origin.to_is;
         leads = λ before kept.
-            let led = origin.leads before (kept_before before origin.from kept) in
-            (led.0, kept_on (before ++ o.process ∷ []) origin.to led.1);
+            leads_on program before o (λ cs. IsKept program old.cells cs origin.to) (λ cs. IsKept program new.cells cs origin.to) (
+            λ cs. kept_on cs origin.to) (origin.leads before (kept_before before origin.from kept));
       }
 
   pub full_on : (o : Origin) → IsFullStep program old o → IsFullStep program new o
@@ -140,7 +154,7 @@ module _ (program : Units) (old new : Known) (on : GoesOn old new) (n : ℕ) (fe
   expanded_on =
       record {
         closed = λ whole i p key before less is kept some.
-            found_on program old new on.kept (before ++ p ∷ []) (
+            led_on program old new on.kept (before ++ p ∷ []) (
             expanded.closed (on.whole whole) i p key before less (old_key i key less is) (old_kept before key kept) some);
         ended = λ i there. expanded.ended i (was i there);
         terminal = λ i key before there is kept.
@@ -175,8 +189,8 @@ module _ (program : Units) (s : Known) (search : IsSearch program s) (m : CoreSt
         from_is = at-front s.states (key ∷ []) o.from visit.from visit.from_is;
         to_is = at-last s.states key;
         leads = λ before kept.
-            let step = visit.leads before kept in
-            (step.stepped, machine_kept program s.cells m key (before ++ o.process ∷ []) is_key step.after);
+            leads_on program before o (λ cs. IsMachineAfter program s.cells cs m) (λ cs. IsKept program s.cells cs key) (
+            λ cs. machine_kept program s.cells m key cs is_key) (visit.leads before kept);
       }
 
   -- and its machine

@@ -1,7 +1,6 @@
 -- The steps that are tried in a state, one process after another, and the state that is expanded then.
 use Rattle.std.proofs.Common.{◌≡◌, ◌≢◌, ◌⊎◌, inl, inr, ℕ, zero, suc, ◌+◌, ◌<◌, ◌≤◌, Bool, true, false, true≢false, ◌||◌, List, [], ◌∷◌}
-use Rattle.std.proofs.Common.{◌++◌}
-use Rattle.std.proofs.Common.{length, Some, None, refl, sym, ap, ◌∙◌, subst, arith, slice_get}
+use Rattle.std.proofs.Common.{◌++◌, length, Some, None, refl, sym, ap, ◌∙◌, subst, arith, slice_get}
 use Rattle.std.proofs.lemmas.Bool.{cases_lt}
 use Rattle.std.proofs.lemmas.Option.{same_Some, slice_get_past}
 use Rattle.hep_source.proofs.Tests.{at-front, at-last}
@@ -13,46 +12,58 @@ use Rattle.hep_explore.specs.Endings.{IsTerminal}
 use Rattle.hep_state.specs.declared.core_state.CoreState.{CoreState}
 use Rattle.hep_state.specs.Words.{IsMachineAfter}
 use Rattle.hep_state.proofs.ProcessNumbers.{length-stacks}
-use Rattle.hep_explore.specs.Searching.{AreAlikeByKeys, AreExpanded, AreTried, GoesOn, HasKey, IsEnded, IsFound, IsFullStep, IsKept}
-use Rattle.hep_explore.specs.Searching.{IsNumbered, IsTried}
-use Rattle.hep_explore.specs.Searching.{IsVisit, IsWhole, IsWholeTry, Known}
-use Rattle.hep_explore.specs.Successors.{IsSuccessor}
+use Rattle.hep_explore.specs.Searching.{AreAlikeByKeys, AreExpanded, AreTried, GoesOn, HasKey, IsEnded, IsFullStep, IsKept, IsNumbered}
+use Rattle.hep_explore.specs.Searching.{IsTried, IsVisit, IsWhole, IsWholeTry, Known, Leads, LeadsToFound, pure_turns}
+use Rattle.hep_explore.specs.Successors.{IsSuccessor, MakesPureSteps}
 use Rattle.hep_explore.specs.declared.search.Origin.{Origin}
 use Rattle.hep_explore.specs.declared.successor.Successor.TheVariants.{Full, Machine, Nothing}
-use Rattle.hep_explore.proofs.SearchedStates.{found_on, kept_machine, machine_kept}
+use Rattle.hep_explore.proofs.SearchedStates.{kept_machine, led_on, machine_kept}
 
 -- ---- one step
 
 module _ (program : Units) (m : CoreState) where
-  -- the machine after a step is that of a visit
-  pub visit_of : AreAlikeByKeys program → (s : Known) (o : Origin) (next : CoreState) → IsNumbered program s o.from m
-      → IsSuccessor program o.process m (Machine next) → IsVisit program s next o
-  visit_of alike s o next numbered is =
-      record {
-        from = numbered.key;
-        from_is = numbered.numbered;
-        leads = λ before kept.
-            is s.cells before (
-            kept_machine program alike s.cells m numbered.key numbered.choices numbered.is_key numbered.after before kept);
-        choices = numbered.choices ++ o.process ∷ [];
-        after = (is s.cells numbered.choices numbered.after).after;
-      }
+  -- a step, and then pure ones
+  module _ (o : Origin) (next new : CoreState) (is : IsSuccessor program o.process m (Machine next))
+      (makes : MakesPureSteps program o.process next o.pure new) where
+    leads_so : (cells : ℕ) (before : List ℕ) → IsMachineAfter program cells before m
+        → Leads program before o (λ choices. IsMachineAfter program cells choices new)
+    leads_so cells before after =
+        let step = is cells before after in
+        let goes = makes.goes cells (before ++ o.process ∷ []) step.after in
+        record { stepped = step.stepped; are_pure = goes.are_pure; holds = goes.after }
 
-  pub tried_made : (new : Known) (p : ℕ) (next : CoreState) → (IsWhole new → HasKey program new next) → IsSuccessor program p m (Machine next)
-      → IsTried program m p true new
-  tried_made new p next has is =
-      record {
-        found = λ whole before after some.
-            let at = has whole in
-            record {
-              number = at.number;
-              key = at.key;
-              numbered = at.numbered;
-              kept = machine_kept program new.cells next at.key (before ++ p ∷ []) at.is_key (is new.cells before after).after;
-            };
-        some = λ moved before after. (is new.cells before after).stepped;
-        none = λ moved. absurd (true≢false moved);
-      }
+    -- the machine after them is that of a visit
+    pub visit_of : AreAlikeByKeys program → (s : Known) → IsNumbered program s o.from m → IsVisit program s new o
+    visit_of alike s numbered =
+        record {
+          from = numbered.key;
+          from_is = numbered.numbered;
+          leads = λ before kept.
+              leads_so s.cells before (
+              kept_machine program alike s.cells m numbered.key numbered.choices numbered.is_key numbered.after before kept);
+          choices = (numbered.choices ++ o.process ∷ []) ++ pure_turns o;
+          after = (leads_so s.cells numbered.choices numbered.after).holds;
+        }
+
+    pub tried_made : (s : Known) → (IsWhole s → HasKey program s new) → IsTried program m o.process true s
+    tried_made s has =
+        record {
+          found = λ whole before after some.
+              let at = has whole in
+              let led = leads_so s.cells before after in
+              record {
+                steps = pure_turns o;
+                are_pure = led.are_pure;
+                found = record {
+                  number = at.number;
+                  key = at.key;
+                  numbered = at.numbered;
+                  kept = machine_kept program s.cells new at.key ((before ++ o.process ∷ []) ++ pure_turns o) at.is_key led.holds;
+                };
+              };
+          some = λ moved before after. (is s.cells before after).stepped;
+          none = λ moved. absurd (true≢false moved);
+        }
 
   -- a step that finds no gap is left out
   pub full_step : AreAlikeByKeys program → (s : Known) (o : Origin) → IsNumbered program s o.from m → IsSuccessor program o.process m Full
@@ -103,15 +114,16 @@ module _ (program : Units) (m : CoreState) where
 
     -- of the first processes and the next one
     found_more : (this : Bool) → IsTried program m (n + 1) this new → IsWhole new → (p : ℕ) (before : List ℕ) → p ≤ n + 1
-        → IsMachineAfter program new.cells before m → step program p (run program before) ≢ None → IsFound program new (before ++ p ∷ [])
+        → IsMachineAfter program new.cells before m → step program p (run program before) ≢ None
+        → LeadsToFound program new (before ++ p ∷ [])
     found_more this tried whole p before few after some = by_place (cases_lt n p) where
-      by_place : (n < p) ⊎ (p ≤ n) → IsFound program new (before ++ p ∷ [])
+      by_place : (n < p) ⊎ (p ≤ n) → LeadsToFound program new (before ++ p ∷ [])
       by_place (inr less) =
-          found_on program old new on.kept (before ++ p ∷ []) (
+          led_on program old new on.kept (before ++ p ∷ []) (
           before_it.found (on.whole whole) p before less (old_after before after) some)
       by_place (inl more) =
           let last : n + 1 ≡ p = omega arith in
-          subst (λ q. IsFound program new (before ++ q ∷ [])) last (
+          subst (λ q. LeadsToFound program new (before ++ q ∷ [])) last (
           tried.found whole before after (λ none. some (subst (λ q. step program q (run program before) ≡ None) last none)))
 
     pub tried_yes : IsTried program m (n + 1) true new → AreTried program m (n + 1) true new
@@ -169,7 +181,7 @@ module _ (program : Units) (m : CoreState) where
       }
     where
       by_found : IsWhole s → (p : ℕ) (before : List ℕ) → IsMachineAfter program s.cells before m
-          → step program p (run program before) ≢ None → (m.made < p) ⊎ (p ≤ m.made) → IsFound program s (before ++ p ∷ [])
+          → step program p (run program before) ≢ None → (m.made < p) ⊎ (p ≤ m.made) → LeadsToFound program s (before ++ p ∷ [])
       by_found whole p before after some (inr few) = tried.found whole p before few after some
       by_found whole p before after some (inl past) = absurd (some (not_made s.cells before p after past))
 
@@ -203,9 +215,9 @@ module _ (program : Units) (alike : AreAlikeByKeys program) (s : Known) (from : 
   module _ (moved : Bool) (tried : IsWholeTry program m moved s) where
     -- each step leads to a state that was found
     closed_more : IsWhole s → (i p : ℕ) (key before : List ℕ) → i < from + 1 → slice_get s.states i ≡ Some key
-        → IsKept program s.cells before key → step program p (run program before) ≢ None → IsFound program s (before ++ p ∷ [])
+        → IsKept program s.cells before key → step program p (run program before) ≢ None → LeadsToFound program s (before ++ p ∷ [])
     closed_more whole i p key before less is kept some = by_place (cases_lt i from) where
-      by_place : (i < from) ⊎ (from ≤ i) → IsFound program s (before ++ p ∷ [])
+      by_place : (i < from) ⊎ (from ≤ i) → LeadsToFound program s (before ++ p ∷ [])
       by_place (inl first) = expanded.closed whole i p key before first is kept some
       by_place (inr last) =
           let here : i ≡ from = omega arith in
@@ -243,8 +255,13 @@ module _ (program : Units) (alike : AreAlikeByKeys program) (s : Known) (from : 
         all = λ i key before less is kept terminal. by_all i key before less is kept terminal (cases_lt i from);
       }
     where
-      again : (before : List ℕ) → IsFound program s before → IsFound program with_ended before
-      again before found = record { number = found.number; key = found.key; numbered = found.numbered; kept = found.kept }
+      again : (before : List ℕ) → LeadsToFound program s before → LeadsToFound program with_ended before
+      again before led =
+          record {
+            steps = led.steps;
+            are_pure = led.are_pure;
+            found = record { number = led.found.number; key = led.found.key; numbered = led.found.numbered; kept = led.found.kept };
+          }
 
       by_ended : (k i : ℕ) → (slice_get s.ended k ≡ Some i) ⊎ ((k ≡ length s.ended) × (from ≡ i)) → i < from + 1
       by_ended k i (inl was) = let less = expanded.ended i (k, was) in omega arith

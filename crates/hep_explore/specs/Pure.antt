@@ -1,7 +1,12 @@
 -- Steps that use no storage and change none: docs/MACHINE.md, "Endings".
-use Rattle.std.specs.Prelude.{ℕ, Bool, false, if◌then◌else◌, List, ◌∷◌, Option, Some, None, is_some}
+use Rattle.std.specs.Prelude.{ℕ, ◌-◌, Bool, true, false, if◌then◌else◌, List, ◌∷◌, drop, length, Option, Some, None, is_some, is_ok}
 use Rattle.std.specs.Option.{option_map}
 use Rattle.std.specs.Result.{result_ok}
+use Rattle.hep_code.specs.declared.instruction.Evaluation.{Evaluation}
+use Rattle.hep_code.specs.declared.instruction.Evaluation.TheVariants.{Apply, Combine, Not, Sign}
+use Rattle.hep_code.specs.declared.instruction.Operation.{Operation}
+use Rattle.hep_code.specs.declared.instruction.Operation.TheVariants.{Branch, BySign, Choose, Condition, Evaluate, Jump}
+use Rattle.hep_code.specs.Words.{arity, first_operand, second_operand}
 use Rattle.hep_machine.specs.Words.{Level, Process, Statement, State, Units, Value, integer_of, logical_of, living, unit_at, unit_of}
 use Rattle.hep_machine.specs.Arithmetic.{combined_value, function_value, negated_value, signed_value}
 use Rattle.hep_machine.specs.Control.{label_by_sign, label_chosen, level_after_condition, level_after_statement, level_at_choice}
@@ -48,3 +53,23 @@ stack_after_pure program s (Some top) = stack_in_unit (unit_at program (unit_of 
 -- and is no fault.
 abbrev pub is_pure : Units → ℕ → State → Bool
 is_pure program q s = if s.halted then false else is_some (stack_after_pure program s (living s q))
+
+-- ---- in the code
+
+-- an evaluation with these operands is an operator or a function of integers, and no fault
+abbrev pub gives_value : Evaluation → List Value → Bool
+gives_value (Sign s) vs = is_ok (signed_value s (first_operand vs))
+gives_value Not vs = true
+gives_value (Combine o) vs = is_ok (combined_value o (first_operand vs) (second_operand vs))
+gives_value (Apply f n) vs = is_ok (function_value f vs)
+gives_value e vs = false
+
+-- the step of an operation with these operands is pure; the last of them are those of an evaluation
+abbrev pub is_pure_operation : Operation → List Value → Bool
+is_pure_operation (Evaluate e) vs = gives_value e (drop (length vs - arity e) vs)
+is_pure_operation (Jump next) vs = true
+is_pure_operation (Choose count next) vs = true
+is_pure_operation (BySign negative equal positive) vs = true
+is_pure_operation (Condition otherwise) vs = true
+is_pure_operation (Branch inside otherwise) vs = true
+is_pure_operation o vs = false

@@ -1,12 +1,13 @@
 -- A search of the states of a program, breadth first: docs/MACHINE.md, "Endings".
 use Rattle.std.specs.Prelude.{◌≡◌, ◌≢◌, ◌⊎◌, ◌<◌, ◌≤◌, ◌+◌, ℕ, Bool, true, false, List, [], ◌∷◌, ◌++◌, length, slice_get, Option, Some}
-use Rattle.std.specs.Prelude.{None}
+use Rattle.std.specs.Prelude.{None, replicate}
 use Rattle.hep_machine.specs.Words.{AreSteps, Units, opening, run, step}
 use Rattle.hep_explore.specs.Endings.{IsTerminal}
+use Rattle.hep_explore.specs.Independence.{AreIndependentSteps}
+use Rattle.hep_explore.specs.Pure.{is_pure}
 use Rattle.hep_state.specs.declared.core_state.CoreState.{CoreState}
 use Rattle.hep_state.specs.Words.{HasNoGap, IsAfter, IsMachineAfter, Snapshot, snapshot_of}
 use Rattle.hep_explore.specs.Keys.{IsKeyOf}
-use Rattle.hep_explore.specs.Successors.{StepsTo}
 use Rattle.hep_explore.specs.declared.search.Origin.{Origin}
 use Rattle.hep_explore.specs.declared.search.Search.{Search}
 
@@ -65,20 +66,37 @@ pub record IsNumbered (program : Units) (s : Known) (i : ℕ) (m : CoreState) : 
   pub choices : List ℕ
   pub after : IsMachineAfter program s.cells choices m
 
--- a step leads from the state of one key to that of another one
-abbrev pub Leads : Units → ℕ → ℕ → List ℕ → List ℕ → Type 0
-Leads program cells p from to =
-    (before : List ℕ) → IsKept program cells before from
-    → (step program p (run program before) ≢ None) × IsKept program cells (before ++ p ∷ []) to
+-- pure steps, or none, lead from the state after these choices to one of those that were found
+pub record LeadsToFound (program : Units) (s : Known) (before : List ℕ) : Type 0 where
+  pub steps : List ℕ
+  pub are_pure : AreIndependentSteps program (is_pure program) (run program before) steps
+  pub found : IsFound program s (before ++ steps)
 
--- the state with a number was found by a step from an earlier one
+-- ---- a step and the pure steps after it
+
+-- the pure steps that its process makes after the step of an origin
+abbrev pub pure_turns : Origin → List ℕ
+pure_turns o = replicate o.pure o.process
+
+-- the step of an origin, and those
+abbrev pub turns_of : Origin → List ℕ
+turns_of o = o.process ∷ pure_turns o
+
+-- after these choices the process of an origin has a step, those that it makes after that one are pure, and this is so of all of them
+pub record Leads (program : Units) (before : List ℕ) (o : Origin) (IsSo : List ℕ → Type 0) : Type 0 where
+  pub stepped : step program o.process (run program before) ≢ None
+  pub are_pure : AreIndependentSteps program (is_pure program) (run program (before ++ o.process ∷ [])) (pure_turns o)
+  pub holds : IsSo ((before ++ o.process ∷ []) ++ pure_turns o)
+
+-- the state with a number was found by a step from an earlier one, and pure steps after it
 pub record IsOrigin (program : Units) (s : Known) (i : ℕ) (o : Origin) : Type 0 where
   pub earlier : o.from < i
   pub from : List ℕ
   pub to : List ℕ
   pub from_is : slice_get s.states o.from ≡ Some from
   pub to_is : slice_get s.states i ≡ Some to
-  pub leads : Leads program s.cells o.process from to
+  pub leads : (before : List ℕ) → IsKept program s.cells before from
+      → Leads program before o (λ choices. IsKept program s.cells choices to)
 
 -- a step in the state with a number makes an activation for whose frame there is no gap
 pub record IsFullStep (program : Units) (s : Known) (o : Origin) : Type 0 where
@@ -110,11 +128,11 @@ pub record IsSearch (program : Units) (s : Known) : Type 0 where
 abbrev pub IsEnded : Known → ℕ → Type 0
 IsEnded s i = (k : ℕ) × (slice_get s.ended k ≡ Some i)
 
--- each step of the first states leads to one that was found, unless one was left out; and in just those of them that are told to have ended
--- no process has a step
+-- each step of the first states leads to one that was found, with pure steps after it, unless one was left out; and in just those of them
+-- that are told to have ended no process has a step
 pub record AreExpanded (program : Units) (n : ℕ) (s : Known) : Type 0 where
   pub closed : IsWhole s → (i p : ℕ) (key before : List ℕ) → i < n → slice_get s.states i ≡ Some key
-      → IsKept program s.cells before key → step program p (run program before) ≢ None → IsFound program s (before ++ p ∷ [])
+      → IsKept program s.cells before key → step program p (run program before) ≢ None → LeadsToFound program s (before ++ p ∷ [])
   pub ended : (i : ℕ) → IsEnded s i → i < n
   pub terminal : (i : ℕ) (key before : List ℕ) → IsEnded s i → slice_get s.states i ≡ Some key
       → IsKept program s.cells before key → IsTerminal program (run program before)
@@ -135,11 +153,12 @@ pub record GoesOn (old new : Known) : Type 0 where
 
 -- ---- one step
 
--- a step in the state with a number leads to what a machine keeps
+-- a step in the state with a number, and the pure steps after it, lead to what a machine keeps
 pub record IsVisit (program : Units) (s : Known) (m : CoreState) (o : Origin) : Type 0 where
   pub from : List ℕ
   pub from_is : slice_get s.states o.from ≡ Some from
-  pub leads : (before : List ℕ) → IsKept program s.cells before from → StepsTo program s.cells before o.process m
+  pub leads : (before : List ℕ) → IsKept program s.cells before from
+      → Leads program before o (λ choices. IsMachineAfter program s.cells choices m)
   pub choices : List ℕ
   pub after : IsMachineAfter program s.cells choices m
 
@@ -154,17 +173,18 @@ pub record HasKey (program : Units) (s : Known) (m : CoreState) : Type 0 where
 abbrev pub HasStep : Units → ℕ → CoreState → ℕ → Type 0
 HasStep program cells m p = (before : List ℕ) → IsMachineAfter program cells before m → step program p (run program before) ≢ None
 
--- the step of process p after all turns that lead to a machine: whether there is one, and if so, where it leads, unless it was left out
+-- the step of process p after all turns that lead to a machine: whether there is one, and if so, where it leads with pure steps after it,
+-- unless it was left out
 pub record IsTried (program : Units) (m : CoreState) (p : ℕ) (moved : Bool) (s : Known) : Type 0 where
   pub found : IsWhole s → (before : List ℕ) → IsMachineAfter program s.cells before m → step program p (run program before) ≢ None
-      → IsFound program s (before ++ p ∷ [])
+      → LeadsToFound program s (before ++ p ∷ [])
   pub some : moved ≡ true → HasStep program s.cells m p
   pub none : moved ≡ false → (before : List ℕ) → IsMachineAfter program s.cells before m → step program p (run program before) ≡ None
 
 -- the steps of the first processes: whether there is one, and if so, where each leads, unless one was left out
 pub record AreTried (program : Units) (m : CoreState) (n : ℕ) (moved : Bool) (s : Known) : Type 0 where
   pub found : IsWhole s → (p : ℕ) (before : List ℕ) → p ≤ n → IsMachineAfter program s.cells before m
-      → step program p (run program before) ≢ None → IsFound program s (before ++ p ∷ [])
+      → step program p (run program before) ≢ None → LeadsToFound program s (before ++ p ∷ [])
   pub some : moved ≡ true → (p : ℕ) × HasStep program s.cells m p
   pub none : moved ≡ false → (p : ℕ) (before : List ℕ) → p ≤ n → IsMachineAfter program s.cells before m
       → step program p (run program before) ≡ None
@@ -172,7 +192,7 @@ pub record AreTried (program : Units) (m : CoreState) (n : ℕ) (moved : Bool) (
 -- all steps in a machine: whether there is one, and if so, where each leads, unless one was left out
 pub record IsWholeTry (program : Units) (m : CoreState) (moved : Bool) (s : Known) : Type 0 where
   pub found : IsWhole s → (p : ℕ) (before : List ℕ) → IsMachineAfter program s.cells before m
-      → step program p (run program before) ≢ None → IsFound program s (before ++ p ∷ [])
+      → step program p (run program before) ≢ None → LeadsToFound program s (before ++ p ∷ [])
   pub some : moved ≡ true → (p : ℕ) × HasStep program s.cells m p
   pub none : moved ≡ false → (before : List ℕ) → IsMachineAfter program s.cells before m → IsTerminal program (run program before)
 

@@ -11,6 +11,7 @@ mod key_parts;
 mod key_processes;
 pub mod laws;
 pub mod observer;
+mod pure_steps;
 pub mod search;
 pub mod states;
 pub mod successor;

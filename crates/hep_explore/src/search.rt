@@ -1,9 +1,9 @@
 //! The search of the states of a program, breadth first.
-ghost use Rattle.std.specs.Prelude.{◌≡◌, ◌≢◌, ◌⊎◌, ◌<◌, ◌+◌, ◌^◌, ℕ, [], true, false, IfNone, IfOk, IfSome, None, OnOk, length};
+ghost use Rattle.std.specs.Prelude.{◌≡◌, ◌≢◌, ◌⊎◌, ◌<◌, ◌+◌, ◌++◌, ◌^◌, ℕ, [], true, false, IfNone, IfOk, IfSome, None, OnOk, length};
 ghost use Rattle.hep_machine.specs.Words.{Units};
 ghost use Rattle.hep_state.specs.Words.{CanOpen};
 ghost use Rattle.hep_explore.specs.Searching.{AreExpanded, AreTried, GoesOn, HasKey, IsDone, IsFullPath, IsFullStep, IsNumbered, IsPathTo};
-ghost use Rattle.hep_explore.specs.Searching.{IsSearch, IsTried, IsVisit, IsWhole, IsWholeTry, KeepsStates, known_of};
+ghost use Rattle.hep_explore.specs.Searching.{IsSearch, IsTried, IsVisit, IsWhole, IsWholeTry, KeepsStates, known_of, turns_of};
 
 use crate::key::key_of;
 use crate::key_laws::machines_with_equal_keys_keep_the_same_states;
@@ -12,15 +12,15 @@ use crate::states::States;
 use crate::successor::{Successor, Turns};
 use hep_image::Image;
 use hep_state::CoreState;
-use hep_state::laws::activations_are_few;
 use std::alloc::{AllocError, Global};
 use std::collections::VecDeque;
 
-/// How a state was found first: by a step of a process in the state with a number.
+/// How a state was found first: by a step of a process in the state with a number, and pure steps of the process after it.
 #[derive(Clone, Copy)]
 pub struct Origin {
     pub from: usize,
     pub process: u64,
+    pub pure: u64,
 }
 
 /// States of a program, by numbers from 0 on in the order in which they were found. The first ones are expanded: each step in them
@@ -42,6 +42,17 @@ pub struct Search {
     most: usize,
     /// Whether a step to one more was left out.
     cut: bool,
+}
+
+// Appends the turns by which a state was found. They are of one process.
+fn append_turns(choices: &mut Vec<u64>, origin: Origin) -> Result<(), AllocError>
+    ensures { OnOk result (choices.new.items ≡ choices.old.items ++ turns_of origin) }
+{
+    choices.push(origin.process)?;
+    for _ in 0..origin.pure {
+        choices.push(origin.process)?;
+    }
+    Ok(())
 }
 
 // Written out, so that a caller's proof has one call of it at each exit.
@@ -94,6 +105,7 @@ impl Search {
         search.origins.push(Origin {
             from: 0,
             process: 0,
+            pure: 0,
         })?;
         search.queue.push_back(machine)?;
         Ok(search)
@@ -133,7 +145,7 @@ impl Search {
         self.full = Some(self.full.unwrap_or(origin));
     }
 
-    // Makes the next step of a process in a state, if it has one. Returns whether it has.
+    // Makes the next step of a process in a state, if it has one, and the pure steps after it. Returns whether it has one.
     fn try_step(
         &mut self,
         image: &Image,
@@ -143,8 +155,8 @@ impl Search {
         requires search { IsSearch image.now (known_of self.old) }
         requires numbered { IsNumbered image.now (known_of self.old) origin.from machine.now }
         requires running { machine.now.halted ≡ false }
-        requires countable { machine.now.activations + 1 < 2 ^ 64 }
-        requires numerable { machine.now.made + 1 < 2 ^ 64 }
+        requires countable { machine.now.activations + 2 < 2 ^ 64 }
+        requires numerable { machine.now.made + 2 < 2 ^ 64 }
         ensures search { OnOk result (IsSearch image.now (known_of self.new)) }
         ensures goes_on { OnOk result (GoesOn (known_of self.old) (known_of self.new)) }
         ensures same { OnOk result (self.new.expanded ≡ self.old.expanded) }
@@ -152,8 +164,20 @@ impl Search {
     {
         machines_with_equal_keys_keep_the_same_states();
         match self.turns.successor(image, machine, origin.process)? {
-            Successor::Machine(next) => {
-                self.visit(image, next, origin)?;
+            Successor::Machine(mut next) => {
+                let pure = self
+                    .turns
+                    .make_pure_steps(image, &mut next, origin.process)?;
+                let Origin { from, process, .. } = origin;
+                self.visit(
+                    image,
+                    next,
+                    Origin {
+                        from,
+                        process,
+                        pure,
+                    },
+                )?;
                 Ok(true)
             }
             Successor::Full => {
@@ -174,8 +198,8 @@ impl Search {
         requires search { IsSearch image.now (known_of self.old) }
         requires numbered { IsNumbered image.now (known_of self.old) from machine.now }
         requires running { machine.now.halted ≡ false }
-        requires countable { machine.now.activations + 1 < 2 ^ 64 }
-        requires numerable { machine.now.made + 1 < 2 ^ 64 }
+        requires countable { machine.now.activations + 2 < 2 ^ 64 }
+        requires numerable { machine.now.made + 2 < 2 ^ 64 }
         ensures search { OnOk result (IsSearch image.now (known_of self.new)) }
         ensures goes_on { OnOk result (GoesOn (known_of self.old) (known_of self.new)) }
         ensures same { OnOk result (self.new.expanded ≡ self.old.expanded) }
@@ -186,6 +210,7 @@ impl Search {
             let origin = Origin {
                 from,
                 process: before + 1,
+                pure: 0,
             };
             let tried = self.try_step(image, machine, origin)?;
             moved |= tried;
@@ -202,8 +227,8 @@ impl Search {
     ) -> Result<bool, AllocError>
         requires search { IsSearch image.now (known_of self.old) }
         requires numbered { IsNumbered image.now (known_of self.old) from machine.now }
-        requires countable { machine.now.activations + 1 < 2 ^ 64 }
-        requires numerable { machine.now.made + 1 < 2 ^ 64 }
+        requires countable { machine.now.activations + 2 < 2 ^ 64 }
+        requires numerable { machine.now.made + 2 < 2 ^ 64 }
         ensures search { OnOk result (IsSearch image.now (known_of self.new)) }
         ensures goes_on { OnOk result (GoesOn (known_of self.old) (known_of self.new)) }
         ensures same { OnOk result (self.new.expanded ≡ self.old.expanded) }
@@ -225,7 +250,6 @@ impl Search {
         ensures same { OnOk result (KeepsStates (known_of self.old) (known_of self.new) × (self.new.expanded ≡ self.old.expanded)) }
     {
         machines_with_equal_keys_keep_the_same_states();
-        activations_are_few();
         let moved = self.has_steps(image, machine, from)?;
         if moved {
             return Ok(());
@@ -324,7 +348,7 @@ impl Search {
         let mut at = state;
         while at > 0 {
             let origin = self.origins[at];
-            choices.push(origin.process)?;
+            append_turns(&mut choices, origin)?;
             at = origin.from;
         }
         choices.reverse();

@@ -1,9 +1,7 @@
 use Rattle.std.proofs.Common.{◌+◌, arith, subst, sym}
 use Rattle.std.proofs.lemmas.Option.{slice_get_within}
-use Rattle.hep_state.proofs.ProcessNumbers.{length-stacks}
-use Rattle.hep_state.specs.Words.{snapshot_of}
 use Rattle.hep_explore.specs.Searching.{AreExpanded, IsWholeTry, known_of}
-use Rattle.hep_explore.proofs.Paths.{reached_soon}
+use Rattle.hep_explore.proofs.Paths.{counted_soon}
 use Rattle.hep_explore.proofs.SearchedStates.{expanded_on, numbered_on, told_is_search}
 use Rattle.hep_explore.proofs.TriedSteps.{expanded_no, expanded_yes}
 use Rattle.hep_explore.proofs.search.Search.expand.Goals as goal
@@ -14,13 +12,15 @@ has_steps-requires c =
     let s = known_of c.args.self.now in
     let m = c.args.machine.now in
     let alike = c.machines_with_equal_keys_keep_the_same_states.ensures program in
-    let soon = reached_soon program alike s c.requires.search c.args.from m c.requires.numbered in
+    let soon = counted_soon program alike s c.requires.search c.args.from m c.requires.numbered in
     let less = slice_get_within s.states c.args.from c.requires.numbered.key c.requires.numbered.numbered in
     let origins = c.requires.search.origins in
-    let activations = c.activations_are_few.ensures.activations program s.cells soon.0 (snapshot_of m) soon.1.after in
-    let processes = c.activations_are_few.ensures.processes program s.cells soon.0 (snapshot_of m) soon.1.after in
-    let made = length-stacks m.processes.items 1 m.made in
-    record { search = c.requires.search; numbered = c.requires.numbered; countable = omega arith; numerable = omega arith }
+    record {
+      search = c.requires.search;
+      numbered = c.requires.numbered;
+      countable = omega (arith, soon.0, less, origins);
+      numerable = omega (arith, soon.1, less, origins);
+    }
 
 pub returns-then-moved : goal.returns-then-moved
 returns-then-moved c =

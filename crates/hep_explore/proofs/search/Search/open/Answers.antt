@@ -12,7 +12,7 @@ pub returns : goal.returns
 returns c =
     let program = c.args.image.now in
     let m : CoreState = c.in_ok-machine.machine in
-    let o : Origin = record { from = 0; process = 0 } in
+    let o : Origin = record { from = 0; process = 0; pure = 0 } in
     let key = c.in_ok-key_of.field-0.bytes.items in
     let is = c.in_ok-insert.ensures in
     let first =

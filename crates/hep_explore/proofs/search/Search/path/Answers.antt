@@ -38,8 +38,8 @@ loop-at-preserved c =
           let same = same_Some origin.from key (sym origin.from_is ∙ from_is) in
           let lead = origin_leads program s at o to (reverse c.loop-at.choices.items) origin (
           c.loop-at.invariant.leads program search origin.to to origin.to_is to_is) in
-          let order = ap reverse c.in_ok-push.ensures.items ∙ reversed_more program s c.loop-at.choices.items o.process in
-          subst (λ k. LeadOn program s.cells k to (reverse c.push.new.self.items)) same (
+          let order = ap reverse c.in_ok-append_turns.ensures ∙ reversed_more program s c.loop-at.choices.items o in
+          subst (λ k. LeadOn program s.cells k to (reverse c.append_turns.new.choices.items)) same (
           subst (LeadOn program s.cells origin.from to) (sym order) lead);
     }
 

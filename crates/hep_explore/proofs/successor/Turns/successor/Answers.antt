@@ -1,7 +1,6 @@
 use Rattle.std.proofs.Common.{◌∙◌, ap, arith, subst, sym}
 use Rattle.hep_state.specs.Words.{HasLevels, Snapshot}
-use Rattle.hep_explore.proofs.SteppedCopies.{copied, dead_successor, full_successor, purged_successor, stepped_successor}
-use Rattle.hep_explore.proofs.SteppedCopies.{waiting_successor}
+use Rattle.hep_explore.proofs.SteppedCopies.{copied, dead_successor, full_successor, purged_successor, stepped_successor, waiting_successor}
 use Rattle.hep_explore.proofs.successor.Turns.successor.Goals as goal
 
 pub lives-requires : goal.lives-requires
