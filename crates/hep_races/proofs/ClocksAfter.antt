@@ -92,7 +92,7 @@ module _ {L S : Type 0} where
 
 module _ {L S : Type 0} (same : L → L → Bool) (alike : S → S → Bool) where
   -- accesses leave the clocks as they are
-  clocks-kept : (c : Clock) (n p : ℕ) (accesses : List (Access L S)) (x : Detector L S)
+  pub clocks-kept : (c : Clock) (n p : ℕ) (accesses : List (Access L S)) (x : Detector L S)
       → (detector_after_accesses same alike c n p accesses x).clocks ≡ x.clocks
   clocks-kept c n p [] x = refl
   clocks-kept c n p (a ∷ others) x = clocks-kept c n p others _

@@ -26,5 +26,8 @@ pub mod BlocksNamed
 pub mod ReadBounds
 pub mod RenamedSteps
 pub mod ObservedTurns
+pub mod SameFromStep
+pub mod SerialStarts
+pub mod WholeRuns
 pub mod DistinctSites
 pub mod RunRaces

@@ -44,7 +44,7 @@ accesses-next c n p accesses i default x t u within rows latest =
 -- where nothing is kept, nothing is observed
 pub observed-none : (d : Detector) → d.steps ≡ 0 → ((p q : ℕ) → (clocks_in d.clocks).of_process p q ≡ 0)
     → ((at : StorageUnit) (q : ℕ) → (clocks_in d.clocks).of_location at q ≡ 0)
-    → ((at : StorageUnit) → accesses_at d.table.latest at ≡ []) → d.table.rows ≡ [] → IsDetectorOf [] d
+    → ((at : StorageUnit) → accesses_at d.table.latest at ≡ []) → d.table.rows ≡ [] → IsDetectorOf 0 [] d
 unfolding detector_from
 observed-none d steps process unit latest rows =
     let none : AllClocks StorageUnit = zero_clocks in
@@ -60,17 +60,25 @@ observed-none d steps process unit latest rows =
       };
     }
 
--- no clock of a detector knows a step that is still to come
-within-of : (es : List (Event StorageUnit ℕ)) (d : Detector) → IsDetectorOf es d → AreWithin d.steps (clocks_in d.clocks)
-within-of es d h =
-    subst (AreWithin d.steps) (sym (ap (λ x. x.clocks) h.same)) (
-    run-within unit_eq nat_eq 0 d.steps _ es (h.steps ∙ by (length es)) (
-    record { process = λ p q. omega arith; unit = λ at q. omega arith }))
-  where
-    by : (n : ℕ) → n ≡ 0 + n
-    by n = omega arith
+-- the first step that is observed is a later one
+pub observed-passed : (first n : ℕ) (d new : Detector) → IsDetectorOf first [] d → new.steps ≡ d.steps + n → new.clocks ≡ d.clocks
+    → new.table ≡ d.table → IsDetectorOf (first + n) [] new
+unfolding detector_from
+observed-passed first n d new h steps clocks table =
+    record {
+      steps = omega (arith, steps, h.steps);
+      same = (λ i. detector_with (clocks_in (clocks i)) (table i)) ∙ h.same;
+    }
 
-module _ (es : List (Event StorageUnit ℕ)) (e : Event StorageUnit ℕ) (d new : Detector) (h : IsDetectorOf es d) (before after : Clock)
+-- no clock of a detector knows a step that is still to come
+within-of : (first : ℕ) (es : List (Event StorageUnit ℕ)) (d : Detector) → IsDetectorOf first es d → AreWithin d.steps (clocks_in d.clocks)
+within-of first es d h =
+    subst (AreWithin d.steps) (sym (ap (λ x. x.clocks) h.same)) (
+    run-within unit_eq nat_eq first d.steps _ es h.steps (
+    record { process = λ p q. omega arith; unit = λ at q. omega arith }))
+
+module _ (first : ℕ) (es : List (Event StorageUnit ℕ)) (e : Event StorageUnit ℕ) (d new : Detector) (h : IsDetectorOf first es d)
+    (before after : Clock)
     (middle : AllClocks StorageUnit) where
   -- the clocks, the accesses and the number of steps after a step make the detector
   pub observed-more : new.steps ≡ d.steps + 1 → ((q : ℕ) → before q ≡ clock_before (clocks_in d.clocks) e q)
@@ -83,21 +91,18 @@ module _ (es : List (Event StorageUnit ℕ)) (e : Event StorageUnit ℕ) (d new 
       ≡ (if nat_eq e.process p then after q
       else (if is_made e.makes p then joined after (middle.of_process p) q else middle.of_process p q)))
       → ((at : StorageUnit) (q : ℕ) → (clocks_in new.clocks).of_location at q ≡ (if e.changes at then after q else middle.of_location at q))
-      → IsDetectorOf (es ++ e ∷ []) new
+      → IsDetectorOf first (es ++ e ∷ []) new
   observed-more counted taken others units accessed tick put left =
       let before_is : before ≡ clock_before (clocks_in d.clocks) e = fun_ext taken in
       let clocks_are : clocks_in new.clocks ≡ clocks_after d.steps (clocks_in d.clocks) e =
-      clocks-put d.steps (clocks_in d.clocks) middle (clocks_in new.clocks) e after (within-of es d h) others units
+      clocks-put d.steps (clocks_in d.clocks) middle (clocks_in new.clocks) e after (within-of first es d h) others units
       (λ q. tick q ∙ ap (λ (c : Clock). ticked d.steps e.process c q) before_is) put left in
       record {
-        steps = counted ∙ ap (λ n. n + 1) h.steps ∙ sym (length_push es e);
+        steps = omega (arith, counted, h.steps, length_push es e);
         same =
             accessed (clocks_in new.clocks)
             ∙ (λ i.
             detector_after_accesses unit_eq nat_eq (before_is i) d.steps e.process e.accesses (detector_with (clocks_are i) d.table))
             ∙ ap (λ x. detector_after unit_eq nat_eq d.steps x e) h.same
-            ∙ sym (run-more unit_eq nat_eq 0 d.steps _ es e (h.steps ∙ by (length es)));
+            ∙ sym (run-more unit_eq nat_eq first d.steps _ es e h.steps);
       }
-    where
-      by : (n : ℕ) → n ≡ 0 + n
-      by n = omega arith

@@ -1,5 +1,5 @@
 -- What a detector has observed: docs/MACHINE.md, "The order of steps".
-use Rattle.std.specs.Prelude.{◌≡◌, ℕ, nat_eq, List, [], length}
+use Rattle.std.specs.Prelude.{◌≡◌, ℕ, ◌+◌, nat_eq, List, [], length}
 use Rattle.hep_accesses.specs.Clocks.{zero_clocks}
 use Rattle.hep_accesses.specs.Detector.{Detector as ADetector, detector_from}
 use Rattle.hep_accesses.specs.Events.{Event as AnEvent}
@@ -9,11 +9,11 @@ use Rattle.hep_races.specs.Observed.{unit_eq}
 use Rattle.hep_races.specs.Tables.{detector_with}
 use Rattle.hep_races.specs.Vectors.{clocks_in}
 
--- what the definition has after these events
-abbrev pub detector_of : List (AnEvent StorageUnit ℕ) → ADetector StorageUnit ℕ
-detector_of es = detector_from unit_eq nat_eq 0 (record { clocks = zero_clocks; table = λ at. []; rows = [] }) es
+-- what the definition has after these events, of which the first one is the step with this number
+abbrev pub detector_of : ℕ → List (AnEvent StorageUnit ℕ) → ADetector StorageUnit ℕ
+detector_of first es = detector_from unit_eq nat_eq first (record { clocks = zero_clocks; table = λ at. []; rows = [] }) es
 
--- it has observed just these events, the first of them first
-pub record IsDetectorOf (es : List (AnEvent StorageUnit ℕ)) (d : Detector) : Type 0 where
-  pub steps : d.steps ≡ length es
-  pub same : detector_with (clocks_in d.clocks) d.table ≡ detector_of es
+-- it has passed over so many steps and then observed just these events
+pub record IsDetectorOf (first : ℕ) (es : List (AnEvent StorageUnit ℕ)) (d : Detector) : Type 0 where
+  pub steps : d.steps ≡ first + length es
+  pub same : detector_with (clocks_in d.clocks) d.table ≡ detector_of first es

@@ -1,5 +1,5 @@
 -- The events of a run, as an observer of its turns knows them: docs/MACHINE.md, "The order of steps".
-use Rattle.std.specs.Prelude.{◌≡◌, ℕ, List, [], ◌∷◌, ◌++◌, Some, slice_get}
+use Rattle.std.specs.Prelude.{◌≡◌, ℕ, ◌+◌, Bool, true, if◌then◌else◌, nat_le, List, [], ◌∷◌, ◌++◌, length, Some, slice_get}
 use Rattle.std.specs.List.{AllZip}
 use Rattle.hep_accesses.specs.RunEvents.{Event, event_of}
 use Rattle.hep_event.specs.Variables.{AreVariablesOf}
@@ -36,18 +36,33 @@ AreNumbered sites accesses numbered = AllZip (IsNumbered sites) accesses numbere
 abbrev pub Events : Type 0
 Events = List Event
 
--- with the step of process p from this state
-abbrev pub with_step : Units → ℕ → State → Events → Events
-with_step program p s es = es ++ event_of program p s (state_after_turn program p s) ∷ []
+-- the steps of a run: how many were made while there was one process, and the events of those after them
+pub record RunSteps : Type 0 where
+  pub alone : ℕ
+  pub events : Events
 
--- it has observed just these events, under the names that the whole run has
-pub record AreObserved (program : Units) (replay : Replay) (made : List ℕ) (o : RaceObserver) (es : Events) : Type 0 where
+-- there is one process
+abbrev pub is_alone : State → Bool
+is_alone s = nat_le (length s.processes) 1
+
+-- with the step of process p from this state
+abbrev pub with_step : Units → ℕ → State → RunSteps → RunSteps
+with_step program p s x =
+    if is_alone (state_after_turn program p s)
+    then record x { alone = x.alone + 1 }
+    else record x { events = x.events ++ event_of program p s (state_after_turn program p s) ∷ [] }
+
+-- it has passed over the steps that were made while there was one process, and observed just the events after them, under the names
+-- that the whole run has
+pub record AreObserved (program : Units) (replay : Replay) (made : List ℕ) (o : RaceObserver) (x : RunSteps) : Type 0 where
   pub variables : AreVariablesOf program o.variables
   pub names : AreNamesOf program o.names
   pub bounds : AreBoundsOf program o.bounds
   pub events : List (AnEvent StorageUnit ℕ)
-  pub detected : IsDetectorOf events o.detector
-  pub same : AllZip (IsRenamedEvent (run_names program (run program (processes replay.turns)) o.sites)) es events
+  pub detected : IsDetectorOf x.alone events o.detector
+  pub same : AllZip (IsRenamedEvent (run_names program (run program (processes replay.turns)) o.sites)) x.events events
+  pub counted : o.detector.steps ≡ length made
+  pub first : is_alone (run program made) ≡ true → x.events ≡ []
 
 -- a process is observed before its step
 abbrev pub IsNoted : Units → List ℕ → ℕ → ObservedStep → Type 0

@@ -1,6 +1,6 @@
 //! The detector of races.
-ghost use Rattle.std.specs.Prelude.{◌≡◌, ℕ, [], ◌∷◌, ◌++◌, List, OnOk, map, nat_eq};
-ghost use Rattle.hep_accesses.specs.Detector.{rows_by_clocks};
+ghost use Rattle.std.specs.Prelude.{◌≡◌, ◌+◌, ◌<◌, ◌^◌, ℕ, [], ◌∷◌, ◌++◌, List, OnOk, map, nat_eq};
+ghost use Rattle.hep_accesses.specs.Detector.{rows_from};
 ghost use Rattle.hep_accesses.specs.Events.{Event as AnEvent};
 ghost use Rattle.hep_races.specs.declared.storage_unit.StorageUnit.{StorageUnit as PureUnit};
 ghost use Rattle.hep_races.specs.Detectors.{IsDetectorOf};
@@ -36,7 +36,7 @@ impl Drop for Detector {
 impl Detector {
     /// No step is observed yet. This takes no memory.
     pub fn new(alloc: Global) -> Detector
-        ensures { IsDetectorOf [] result }
+        ensures { IsDetectorOf 0 [] result }
     {
         Detector {
             steps: 0,
@@ -45,14 +45,22 @@ impl Detector {
         }
     }
 
+    /// Passes over the next steps of the run, so many. None is observed yet.
+    pub fn pass(&mut self, count: u64)
+        requires few { self.old.steps + count < 2 ^ 64 }
+        ensures { (first : ℕ) → IsDetectorOf first [] self.old → IsDetectorOf (first + count) [] self.new }
+    {
+        self.steps += count;
+    }
+
     /// Observes the next step of the run.
     ///
     /// # Errors
     ///
     /// Where memory was refused, and where a number would pass 2^64 - 1. The detector is of no more use then.
     pub fn observe(&mut self, event: &StepEvent) -> Result<(), AllocError>
-        ensures { OnOk result ((es : List (AnEvent PureUnit ℕ)) → IsDetectorOf es self.old
-            → IsDetectorOf (es ++ event_in event.now ∷ []) self.new) }
+        ensures { OnOk result ((first : ℕ) (es : List (AnEvent PureUnit ℕ)) → IsDetectorOf first es self.old
+            → IsDetectorOf first (es ++ event_in event.now ∷ []) self.new) }
     {
         let step = self.steps;
         self.steps = successor(step)?;
@@ -65,7 +73,8 @@ impl Detector {
 
     /// The rows of the races so far, in the order in which they came up.
     pub fn rows(&self) -> &[Row]
-        ensures { (es : List (AnEvent PureUnit ℕ)) → IsDetectorOf es self.now → map row_in result.now ≡ rows_by_clocks unit_eq nat_eq es }
+        ensures { (first : ℕ) (es : List (AnEvent PureUnit ℕ)) → IsDetectorOf first es self.now
+            → map row_in result.now ≡ rows_from unit_eq nat_eq first es }
     {
         self.table.rows()
     }

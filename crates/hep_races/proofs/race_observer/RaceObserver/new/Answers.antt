@@ -1,8 +1,8 @@
-use Rattle.std.proofs.Common.{[]}
+use Rattle.std.proofs.Common.{[], refl}
 use Rattle.hep_races.proofs.race_observer.RaceObserver.new.Goals as goal
 
 pub returns : goal.returns
-returns c replay made =
+returns c replay =
     record {
       variables = c.in_ok-variables.ensures;
       names = c.in_ok-names.ensures;
@@ -10,4 +10,6 @@ returns c replay made =
       events = [];
       detected = c.new-2.ensures;
       same = tt;
+      counted = c.new-2.ensures.steps;
+      first = λ alone. refl;
     }
