@@ -44,15 +44,15 @@ pub record AgreeFrom {L : Type 0} (n : ℕ) (x y : Clocks L) : Type 0 where
   pub process : (p : ℕ) → AgreeOn n (x.of_process p) (y.of_process p)
   pub unit : (at : L) → AgreeOn n (x.of_location at) (y.of_location at)
 
-module _ {L S : Type 0} (n : ℕ) where
-  need-agree : (x y : Clocks L) → AgreeFrom n x y → (o : Option L) → AgreeOn n (clock_of_need x o) (clock_of_need y o)
-  need-agree x y h None p = refl
-  need-agree x y h (Some at) p = h.unit at p
+need-agree : {L : Type 0} (n : ℕ) (x y : Clocks L) → AgreeFrom n x y → (o : Option L) → AgreeOn n (clock_of_need x o) (clock_of_need y o)
+need-agree n x y h None p = refl
+need-agree n x y h (Some at) p = h.unit at p
 
+module _ {L S : Type 0} (n : ℕ) where
   before-agree : (x y : Clocks L) → AgreeFrom n x y → (e : Event L S) → AgreeOn n (clock_before x e) (clock_before y e)
   before-agree x y h e p =
       same-joined n (x.of_process e.process p) (clock_of_need x e.needs p) (y.of_process e.process p) (clock_of_need y e.needs p)
-      (h.process e.process p) (need-agree x y h e.needs p)
+      (h.process e.process p) (need-agree n x y h e.needs p)
 
   ticked-agree : (m : ℕ) (x y : Clocks L) → AgreeFrom n x y → (e : Event L S)
       → AgreeOn n (ticked m e.process (clock_before x e)) (ticked m e.process (clock_before y e))

@@ -30,11 +30,11 @@ use Rattle.hep_races.specs.ObservedRuns.{RunSteps, is_alone, with_step}
 
 module _ {L S : Type 0} (same : L → L → Bool) (alike : S → S → Bool) where
   -- an access of process 1 before step n
-  abbrev IsStart : ℕ → StepAccess L S → Type 0
+  abbrev pub IsStart : ℕ → StepAccess L S → Type 0
   IsStart n d = (d.step < n) × (d.process ≡ 1)
 
   -- so are all in the tables, and there are no rows
-  record HasStart (n : ℕ) (x : Detector L S) : Type 0 where
+  pub record HasStart (n : ℕ) (x : Detector L S) : Type 0 where
     pub rows : x.rows ≡ []
     pub table : (at : L) → AllByRecursion (IsStart n) (x.table at)
 
@@ -143,11 +143,11 @@ module _ (program : Units)
 
   -- a process that lives has a number
   lives-within : (s : State) (p : ℕ) (top : Level × Process) → living s p ≡ Some top → (1 ≤ p) × (p ≤ length s.processes)
-  lives-within s zero top lives = absurd (none-some lives)
+  lives-within s zero top lives = absurd (none-some top lives)
   lives-within s (suc k) top lives = by (slice_get s.processes k) refl lives
     where
       by : (o : Option Process) → slice_get s.processes k ≡ o → top_of o ≡ Some top → (1 ≤ suc k) × (suc k ≤ length s.processes)
-      by None e none = absurd (none-some none)
+      by None e none = absurd (none-some top none)
       by (Some q) e some = (omega arith, omega (arith, slice_get_within s.processes k q e))
 
   -- the event of a step has its process, and the process that the step makes

@@ -9,8 +9,8 @@ use Rattle.hep_races.specs.Observed.{access_in, event_in, unit_eq}
 use Rattle.hep_races.specs.ObservedRuns.{is_alone}
 use Rattle.hep_races.specs.RunNames.{unit_of_place}
 
-pub pass-requires-clause-few : goal.pass-requires-clause-few
-pass-requires-clause-few c =
+pub pass-requires : goal.pass-requires
+pass-requires c =
     let at = c.requires in
     let few = few-made c.args.image.now at.replay (at.made ++ c.args.p ∷ []) at.left c.args.machine.now at.under_way in
     omega (arith, few, at.known.counted, length_push at.made c.args.p)
