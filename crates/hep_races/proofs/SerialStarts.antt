@@ -1,26 +1,23 @@
 -- The steps that a run makes while there is one process needn't be observed: its rows are those of the steps after them.
 use Rattle.std.proofs.Common.{◌≡◌, ◌≢◌, inl, inr, ◌⊎◌, ℕ, zero, suc, ◌+◌, ◌<◌, ◌≤◌, Bool, true, false, ◌&&◌, ◌||◌, not, if◌then◌else◌, max}
-use Rattle.std.proofs.Common.{nat_eq, nat_le, nat_lt, List, [], ◌∷◌, ◌++◌, append_assoc, append-nil, length, Option, None, Some, slice_get}
+use Rattle.std.proofs.Common.{nat_eq, nat_le, List, [], ◌∷◌, ◌++◌, append_assoc, append-nil, length, Option, None, Some, slice_get}
 use Rattle.std.proofs.Common.{refl, sym, ap, ◌∙◌, subst, arith}
-use Rattle.std.proofs.lemmas.Bool.{cases_lt, eq-eqb, false≢true, le-leb, leb-false, leb-true, lt-leb, lt-ltb}
+use Rattle.std.proofs.lemmas.Bool.{cases_lt, eq-eqb, false≢true, leb-false, leb-true, lt-leb, lt-ltb}
 use Rattle.std.proofs.lemmas.Option.{none-some, slice_get_within}
 use Rattle.std.specs.List.{AllByRecursion, filter}
-use Rattle.std.specs.Option.{unwrap_or}
 use Rattle.hep_accesses.specs.Accesses.{Site, same_site}
 use Rattle.hep_accesses.specs.Clocks.{Clock, Clocks, clock_before, clocks_after, joined, ticked, zero_clocks}
-use Rattle.hep_accesses.specs.Detector.{Detector, Table, detector_after, detector_after_accesses, detector_from, is_racing_by_clock}
-use Rattle.hep_accesses.specs.Detector.{is_repeated, racing_by_clock, rows_by_clocks, rows_from, with_access}
+use Rattle.hep_accesses.specs.Detector.{Detector, detector_after, detector_after_accesses, detector_from, is_racing_by_clock}
+use Rattle.hep_accesses.specs.Detector.{is_repeated, racing_by_clock, rows_by_clocks, rows_from}
 use Rattle.hep_accesses.specs.Events.{Access, Event as AnEvent, is_made, leads_to}
 use Rattle.hep_accesses.specs.Firsts.{first_of_each}
 use Rattle.hep_accesses.specs.Races.{Row as ARow, StepAccess, conflicts, from_same_site, with_pairs}
 use Rattle.hep_accesses.specs.RunEvents.{Event, event_of, event_of_top, events_from, events_of, process_made, with_event}
 use Rattle.hep_accesses.proofs.Elements.{all-filtered, all-mapped}
 use Rattle.hep_accesses.proofs.Firsts.{filter-dropped}
-use Rattle.hep_fold.specs.Folds.{entries_before, entries_until, turns_within}
-use Rattle.hep_fold.specs.Turns.{processes, seen_along, turns_from}
-use Rattle.hep_fold.specs.declared.history_range.HistoryRange.{HistoryRange}
-use Rattle.hep_machine.specs.Words.{AreSteps, Level, Location, Process, State, Units, living, numbered, opening, run, same_location}
-use Rattle.hep_machine.specs.Words.{schedule_of, state_after_turn, step, top_of}
+use Rattle.hep_fold.specs.Turns.{processes, seen_along}
+use Rattle.hep_machine.specs.Words.{AreSteps, Level, Location, Process, State, Units, living, opening, same_location}
+use Rattle.hep_machine.specs.Words.{state_after_turn, step, top_of}
 use Rattle.hep_races.proofs.ClocksAfter.{AreWithin, clocks-kept, within-more}
 use Rattle.hep_races.proofs.ObservedTurns.{first-step, had-top}
 use Rattle.hep_races.proofs.SameFromStep.{AgreesFrom, KnowsStart, is_later, start-known, step-agrees}

@@ -6,7 +6,7 @@ use Rattle.hep_accesses.specs.Detector.{rows_by_clocks, rows_from}
 use Rattle.hep_accesses.specs.RunEvents.{Row, events_of}
 use Rattle.hep_fold.proofs.TurnRows.{processes-all}
 use Rattle.hep_fold.specs.Folds.{entries_before, entries_until, replay_of, turns_within}
-use Rattle.hep_fold.specs.Turns.{processes, seen_along, turns_from}
+use Rattle.hep_fold.specs.Turns.{seen_along, turns_from}
 use Rattle.hep_fold.specs.declared.history_range.HistoryRange.{HistoryRange}
 use Rattle.hep_layout.proofs.HeldFrames.{opening-is}
 use Rattle.hep_machine.specs.declared.event.Entry.{Entry}

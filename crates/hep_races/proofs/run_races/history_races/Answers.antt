@@ -1,9 +1,9 @@
-use Rattle.std.proofs.Common.{◌≡◌, ◌++◌, ◌∙◌, ℕ, [], List, ap, length, map, nat_eq, not, refl, subst, sym, take}
+use Rattle.std.proofs.Common.{◌≡◌, ◌++◌, ◌∙◌, ℕ, List, ap, length, map, nat_eq, not, refl, subst, sym, take}
 use Rattle.std.proofs.lemmas.List.{length-map}
 use Rattle.std.specs.List.{AllZip}
 use Rattle.std.specs.Option.{option_map}
 use Rattle.hep_accesses.specs.RunEvents.{events_of, races_of}
-use Rattle.hep_fold.specs.Folds.{CanBeMade, entries_before, entries_until, replay_of}
+use Rattle.hep_fold.specs.Folds.{CanBeMade, entries_until, replay_of}
 use Rattle.hep_fold.specs.declared.history_range.HistoryRange.{HistoryRange}
 use Rattle.hep_machine.specs.Words.{run, same_location, schedule_of}
 use Rattle.hep_races.proofs.ObservedTurns.{take-own}
