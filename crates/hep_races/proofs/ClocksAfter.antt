@@ -1,11 +1,11 @@
 -- The clocks after a step, from those that the code takes out and puts back.
 use Rattle.std.proofs.Common.{◌≡◌, ℕ, suc, ◌<◌, ◌≤◌, Bool, true, false, ◌||◌}
-use Rattle.std.proofs.Common.{if◌then◌else◌, max, nat_eq, List, [], ◌∷◌, length, Option, None, Some}
-use Rattle.std.proofs.Common.{refl, sym, ap, ◌∙◌, ◌++◌, subst, arith}
+use Rattle.std.proofs.Common.{if◌then◌else◌, max, nat_eq, List, [], ◌∷◌, Option, None, Some}
+use Rattle.std.proofs.Common.{refl, ◌∙◌, subst, arith}
 use Rattle.std.proofs.Math.Path.{fun_ext}
 use Rattle.std.proofs.lemmas.Bool.{eqb-true}
 use Rattle.hep_accesses.specs.Clocks.{Clock, Clocks, clock_before, clock_of_need, clocks_after, joined, ticked}
-use Rattle.hep_accesses.specs.Detector.{Detector, detector_after, detector_after_accesses, detector_from}
+use Rattle.hep_accesses.specs.Detector.{Detector, detector_after_accesses}
 use Rattle.hep_accesses.specs.Events.{Access, Event, is_made, leads_to}
 
 -- no clock knows a step from n on

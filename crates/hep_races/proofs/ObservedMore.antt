@@ -65,12 +65,15 @@ observed-none d steps process unit latest rows =
 
 -- ---- steps with their numbers
 
+-- the step is before step n
 abbrev IsBelow : ℕ → ℕ × Event StorageUnit ℕ → Type 0
 IsBelow n e = e.0 < n
 
+-- they are before a later one too
 below-more : (n m : ℕ) → n ≤ m → (es : NumberedEvents) → AllByRecursion (IsBelow n) es → AllByRecursion (IsBelow m) es
 below-more n m more es h = all-mapped (IsBelow n) (IsBelow m) (λ e k. omega (arith, k, more)) es h
 
+-- and one more is
 below-last : (n : ℕ) (es : NumberedEvents) (e : ℕ × Event StorageUnit ℕ) → AllByRecursion (IsBelow n) es → IsBelow n e
     → AllByRecursion (IsBelow n) (es ++ e ∷ [])
 below-last n [] e h k = (k, tt)
@@ -86,7 +89,7 @@ observed-passed n count es d new h steps clocks table =
       earlier = below-more n (n + count) (omega arith) es h.earlier;
     }
 
--- no clock of a detector knows a step that is still to come
+-- no clock knows a step that is still to come
 along-within : (n : ℕ) (x : ADetector StorageUnit ℕ) (es : NumberedEvents) → AllByRecursion (IsBelow n) es → AreWithin n x.clocks
     → AreWithin n (detector_along unit_eq nat_eq x es).clocks
 unfolding detector_along
@@ -98,6 +101,7 @@ along-within n x (e ∷ es) below h =
     clocks-kept unit_eq nat_eq (clock_before x.clocks e.1) e.0 e.1.process e.1.accesses (
     record { clocks = clocks_after e.0 x.clocks e.1; table = x.table; rows = x.rows }))) (within-later n e.0 x.clocks e.1 below.0 h))
 
+-- so it is of a detector
 within-of : (n : ℕ) (es : NumberedEvents) (d : Detector) → IsDetectorOf n es d → AreWithin n (clocks_in d.clocks)
 within-of n es d h =
     subst (AreWithin n) (sym (ap (λ x. x.clocks) h.same)) (

@@ -31,7 +31,7 @@ use Rattle.hep_state.specs.Words.{IsMachineAfter}
 use Rattle.hep_trace.specs.References.{top_after}
 use Rattle.hep_races.proofs.LaterStates.{IsKeptThere, kept-later}
 use Rattle.hep_races.proofs.NotedSteps.{noted-last, noted-later, noted-none, noted-quiet}
-use Rattle.hep_races.proofs.QuietTurns.{passes-first, passes-last, quiet-turn, step-some}
+use Rattle.hep_races.proofs.QuietTurns.{passes-first, passes-last, quiet-turn}
 use Rattle.hep_races.proofs.RenamedSteps.{IsNumberedStep, step-renamed}
 use Rattle.hep_races.specs.NamesInBounds.{AreBoundsOf}
 use Rattle.hep_races.specs.Detectors.{IsDetectorOf, NumberedEvents}
@@ -260,7 +260,6 @@ module _ (program : Units) (watches : List Breakpoints) (are : AreWatchesFor pro
       let state : run program after ≡ run_from program s (replicate n p) = state-on program cells p choices n after going in
       let next = state_after_turn program p (run program after) in
       let e : Event = event_of program p (run program after) next in
-      let stepped : step program p (run program after) ≡ Some next = step-some program p (run program after) is.stepped in
       let made : length next.processes ≡ length (run program after).processes =
       ap (λ (u : State). length u.processes) (sym (run-last program after p)) ∙ is.made in
       let still : is_alone next ≡ false =
@@ -268,7 +267,7 @@ module _ (program : Units) (watches : List Breakpoints) (are : AreWatchesFor pro
       omega (arith, made, gone-alone program cells p choices n after going, leb-false (length s.processes) 1 several)) in
       let unwatched : IsUnwatched program watches p (run program after) =
       subst (IsUnwatched program watches p) (sym state) (passes-last program watches p n s passes) in
-      let quiet = quiet-turn program watches are p (run program after) next unwatched stepped made in
+      let quiet = quiet-turn program watches are p (run program after) unwatched is.stepped made in
       let longer : length (y.events ++ e ∷ []) ≡ length x.events + suc n = omega (arith, before.longer, length_push y.events e) in
       subst (λ z. HavePassed (suc n) x z fs) (
       sym (

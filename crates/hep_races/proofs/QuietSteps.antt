@@ -1,6 +1,6 @@
 -- Steps that need, change, make and access nothing can be passed over: the rows are the same.
 use Rattle.std.proofs.Common.{◌≡◌, ℕ, suc, Bool, true, false, ◌&&◌, ◌||◌, not, if◌then◌else◌, max, nat_eq, nat_le, List, [], ◌∷◌, None}
-use Rattle.std.proofs.Common.{Option, Some, refl, sym, ap, ◌∙◌, subst, arith}
+use Rattle.std.proofs.Common.{Option, Some, refl, ap, ◌∙◌, arith}
 use Rattle.std.proofs.Math.Path.{fun_ext}
 use Rattle.std.proofs.lemmas.Bool.{eqb-true}
 use Rattle.std.specs.List.{filter}
@@ -20,6 +20,7 @@ pub record AreAlike {L : Type 0} (x y : Clocks L) : Type 0 where
   pub process : (p q : ℕ) → nat_eq p q ≡ false → x.of_process p q ≡ y.of_process p q
   pub unit : (at : L) (q : ℕ) → x.of_location at q ≡ y.of_location at q
 
+-- what a need knows is the same
 need-alike : {L : Type 0} (x y : Clocks L) → AreAlike x y → (o : Option L) (q : ℕ) → clock_of_need x o q ≡ clock_of_need y o q
 need-alike x y h None q = refl
 need-alike x y h (Some at) q = h.unit at q

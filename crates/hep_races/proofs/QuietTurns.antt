@@ -1,12 +1,12 @@
 -- Turns that begin where nothing is observed need, make, change and access nothing.
 use Rattle.std.proofs.Common.{◌≡◌, ◌≢◌, ℕ, zero, suc, ◌+◌, Bool, true, false, true≢false, ◌&&◌, List, [], ◌∷◌, ◌++◌, Option, Some, None, drop, length}
-use Rattle.std.proofs.Common.{not, nat_lt, if◌then◌else◌, replicate, slice_get, refl, sym, ap, ◌∙◌, subst, arith}
+use Rattle.std.proofs.Common.{not, if◌then◌else◌, replicate, slice_get, refl, sym, ap, ◌∙◌, subst, arith}
 use Rattle.std.specs.Option.{unwrap_or}
 use Rattle.std.proofs.lemmas.Bool.{le-ltb}
 use Rattle.std.specs.List.{list_any}
 use Rattle.hep_accesses.specs.Accesses.{accesses_of_next, need_of_next}
 use Rattle.hep_accesses.specs.Exchanges.{top_with}
-use Rattle.hep_accesses.specs.RunEvents.{event_of, event_of_top, process_made}
+use Rattle.hep_accesses.specs.RunEvents.{event_of, event_of_top}
 use Rattle.hep_advance.specs.BreakpointRows.{IsUnwatched, PassesFrom, is_watched, row_in, watched_at}
 use Rattle.hep_advance.specs.declared.breakpoints.Breakpoints.{Breakpoints}
 use Rattle.hep_code.proofs.ControlFlow.{drop_one_more, next_is_ahead, pushed}
@@ -18,7 +18,7 @@ use Rattle.hep_code.specs.Words.{AddressedUnit, Stands, code_of, ending_of, tabl
 use Rattle.hep_code.specs.declared.variable.Variable.{Variable}
 use Rattle.hep_machine.specs.Evaluation.{reading}
 use Rattle.hep_machine.specs.Words.{Action, Level, Location, Next, Process, Redex, State, Top, Units, Value, Work, assigning, calling}
-use Rattle.hep_machine.specs.Words.{creating, does, ending_loop, entering_loop, evaluating, leaving, living, next_of, purging, referring, run_from}
+use Rattle.hep_machine.specs.Words.{creating, does, ending_loop, entering_loop, evaluating, leaving, next_of, purging, referring, run_from}
 use Rattle.hep_machine.specs.Words.{same_location, state_after_turn, step, testing, unit_at, unit_of, wants}
 use Rattle.hep_step.specs.Simulation.{unit_addressed, unit_code}
 use Rattle.hep_races.proofs.ChangedUnits.{changed-units}
@@ -28,22 +28,21 @@ use Rattle.hep_races.specs.WatchedCode.{AreWatchesFor, is_observed, is_observed_
 
 -- ---- indexes that aren't watched
 
--- a row tells of each index that isn't watched
-unwatched-row : (row : List Bool) (index : ℕ) → watched_at row index ≡ false → slice_get row index ≡ Some false
-unwatched-row row index none = by (slice_get row index) refl
-  where
-    by : (o : Option Bool) → slice_get row index ≡ o → o ≡ Some false
-    by None e = absurd (true≢false (sym (ap (λ o. unwrap_or o true) e) ∙ none))
-    by (Some b) e = ap (λ b. Some b) (sym (ap (λ o. unwrap_or o true) e) ∙ none)
+module _ (program : Units) (watches : List Breakpoints) (are : AreWatchesFor program watches) (u index : ℕ) where
+  -- in a row
+  unwatched-in : (w : Breakpoints) → slice_get watches u ≡ Some w → (o : Option Bool) → slice_get w.watched.items index ≡ o
+      → unwrap_or o true ≡ false → false ≡ is_observed_ahead (drop index (unit_code program u))
+  unwatched-in w is None at none = absurd (true≢false none)
+  unwatched-in w is (Some b) at none = sym none ∙ (are.each u w is).each index b at
 
-unwatched-row-of : (watches : List Breakpoints) (u index : ℕ) → is_watched watches u index ≡ false
-    → (w : Breakpoints) × (slice_get watches u ≡ Some w) × (slice_get w.watched.items index ≡ Some false)
-unwatched-row-of watches u index none = by (slice_get watches u) refl
-  where
-    by : (o : Option Breakpoints) → slice_get watches u ≡ o
-        → (w : Breakpoints) × (slice_get watches u ≡ Some w) × (slice_get w.watched.items index ≡ Some false)
-    by None e = absurd (true≢false (ap (λ o. watched_at (row_in o) index) (sym e) ∙ none))
-    by (Some w) e = (w, e, unwatched-row w.watched.items index (ap (λ o. watched_at (row_in o) index) (sym e) ∙ none))
+  -- the operation from an index that isn't watched isn't observed
+  unwatched-ahead : is_watched watches u index ≡ false → false ≡ is_observed_ahead (drop index (unit_code program u))
+  unwatched-ahead = by (slice_get watches u) refl
+    where
+      by : (o : Option Breakpoints) → slice_get watches u ≡ o → watched_at (row_in o) index ≡ false
+          → false ≡ is_observed_ahead (drop index (unit_code program u))
+      by None is none = absurd (true≢false none)
+      by (Some w) is none = unwatched-in w is (slice_get w.watched.items index) refl none
 
 -- ---- the operation ahead
 
@@ -117,29 +116,21 @@ module _ (program : Units) (t : Top) (operands : List Value) (index : ℕ) (o : 
 
 -- ---- turns
 
--- a step leads to the state after the turn
-pub step-some : (program : Units) (p : ℕ) (s : State) → step program p s ≢ None → step program p s ≡ Some (state_after_turn program p s)
-step-some program p s h = by (step program p s) h
-  where
-    by : (o : Option State) → o ≢ None → o ≡ Some (unwrap_or o s)
-    by None some = absurd (some refl)
-    by (Some t) some = refl
-
 module _ (program : Units) (watches : List Breakpoints) where
   and-no : (b : Bool) → (b && false) ≡ false
   and-no true = refl
   and-no false = refl
 
   -- a step from an index that isn't watched, which makes no process, is quiet
-  pub quiet-turn : AreWatchesFor program watches → (p : ℕ) (s t : State) → IsUnwatched program watches p s → step program p s ≡ Some t
-      → length t.processes ≡ length s.processes → IsQuiet (event_of program p s t)
-  quiet-turn are p s t un stepped same =
+  pub quiet-turn : AreWatchesFor program watches → (p : ℕ) (s : State) → IsUnwatched program watches p s → step program p s ≢ None
+      → length (state_after_turn program p s).processes ≡ length s.processes → IsQuiet (event_of program p s (state_after_turn program p s))
+  quiet-turn are p s un stepped same =
+      let t = state_after_turn program p s in
       let top = un.top in
       let u = unit_of s top.0.activation in
       let addressed = unit_addressed program u in
-      let at = unwatched-row-of watches u un.index un.unwatched in
       let ahead = settled addressed top.0.statement top.0.work (drop un.index (unit_code program u)) un.operands un.index un.stands refl (
-      (are.each u at.0 at.1).each un.index false at.2) in
+      unwatched-ahead program watches are u un.index un.unwatched) in
       let next = (next_is_ahead addressed top.0.statement top.0.work ahead.operands ahead.index ahead.stands ahead.line ahead.operation
       ahead.behind ahead.ahead).1 in
       let none = quiet-next program (top_with program s p top) ahead.operands ahead.index ahead.operation ahead.behind ahead.quiet (
@@ -150,11 +141,15 @@ module _ (program : Units) (watches : List Breakpoints) where
         makes = ap (λ b. if b then Some (suc (length s.processes)) else None) (
             le-ltb (length s.processes) (length t.processes) (omega (arith, same)));
         changes = λ at.
-            changed-units program p s t top un.lives stepped at
+            changed-units program p s t top un.lives (leads (step program p s) refl) at
             ∙ ap (λ (ls : List Location). not (has_failed s t) && list_any (same_location at) ls) none.changes
             ∙ and-no (not (has_failed s t));
         accesses = none.accesses;
       })
+    where
+      leads : (o : Option State) → step program p s ≡ o → o ≡ Some (unwrap_or o s)
+      leads None e = absurd (stepped e)
+      leads (Some t) e = refl
 
   -- the first turns of several that begin where nothing is watched, and the last one
   pub passes-first : (p n : ℕ) (s : State) → PassesFrom program watches p s (suc n) → PassesFrom program watches p s n

@@ -1,5 +1,5 @@
 -- The indexes of the code from which a step is observed: docs/MACHINE.md, "The order of steps".
-use Rattle.std.specs.Prelude.{◌≡◌, ℕ, Bool, true, false, List, [], ◌∷◌, drop, length, slice_get, Some}
+use Rattle.std.specs.Prelude.{◌≡◌, ℕ, Bool, true, false, List, ◌∷◌, drop, length, slice_get, Some}
 use Rattle.hep_advance.specs.declared.breakpoints.Breakpoints.{Breakpoints}
 use Rattle.hep_code.specs.declared.instruction.Evaluation.TheVariants.{Load, Test}
 use Rattle.hep_code.specs.declared.instruction.Instruction.{Instruction}

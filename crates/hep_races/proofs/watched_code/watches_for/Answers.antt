@@ -1,4 +1,4 @@
-use Rattle.std.proofs.Common.{◌≡◌, inl, inr, List, Some, slice_get, sym, ap, ◌∙◌, subst, arith}
+use Rattle.std.proofs.Common.{◌≡◌, inl, inr, List, Some, slice_get, sym, ◌∙◌, subst, arith}
 use Rattle.hep_code.specs.declared.instruction.Instruction.{Instruction}
 use Rattle.hep_advance.proofs.Pushed.{get-one-more}
 use Rattle.hep_advance.specs.declared.breakpoints.Breakpoints.{Breakpoints}
