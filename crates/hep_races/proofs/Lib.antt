@@ -25,6 +25,9 @@ pub mod ActualsGiven
 pub mod BlocksNamed
 pub mod ReadBounds
 pub mod RenamedSteps
+pub mod QuietSteps
+pub mod NotedSteps
+pub mod QuietTurns
 pub mod ObservedTurns
 pub mod SameFromStep
 pub mod SerialStarts

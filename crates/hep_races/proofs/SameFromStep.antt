@@ -27,6 +27,7 @@ same-known n m a b later h = by (cases_lt a m)
 max-both : (n a b : ℕ) → max n (max a b) ≡ max (max n a) (max n b)
 max-both n a b = omega arith
 
+-- so clocks that agree from step n on agree after a join
 same-joined : (n a b c d : ℕ) → max n a ≡ max n c → max n b ≡ max n d → max n (max a b) ≡ max n (max c d)
 same-joined n a b c d h k = max-both n a b ∙ (λ i. max (h i) (k i)) ∙ sym (max-both n c d)
 
@@ -44,6 +45,7 @@ pub record AgreeFrom {L : Type 0} (n : ℕ) (x y : Clocks L) : Type 0 where
   pub process : (p : ℕ) → AgreeOn n (x.of_process p) (y.of_process p)
   pub unit : (at : L) → AgreeOn n (x.of_location at) (y.of_location at)
 
+-- what a need knows
 need-agree : {L : Type 0} (n : ℕ) (x y : Clocks L) → AgreeFrom n x y → (o : Option L) → AgreeOn n (clock_of_need x o) (clock_of_need y o)
 need-agree n x y h None p = refl
 need-agree n x y h (Some at) p = h.unit at p

@@ -1,6 +1,5 @@
 -- What is observed of all turns of a history: the rows, and the names of its storage units and sites.
 use Rattle.std.proofs.Common.{◌≡◌, ◌⊎◌, ℕ, ◌+◌, List, [], ◌∷◌, drop, length, take, refl, sym, ap, ◌∙◌, subst, arith}
-use Rattle.std.specs.List.{AllZip}
 use Rattle.hep_accesses.specs.Accesses.{same_site}
 use Rattle.hep_accesses.specs.Detector.{rows_by_clocks, rows_from}
 use Rattle.hep_accesses.specs.RunEvents.{Row, events_of}
@@ -12,8 +11,7 @@ use Rattle.hep_layout.proofs.HeldFrames.{opening-is}
 use Rattle.hep_machine.specs.declared.event.Entry.{Entry}
 use Rattle.hep_machine.specs.Words.{AreSteps, State, Units, opening, run, same_location, schedule_of, state_after_turn}
 use Rattle.hep_races.proofs.SerialStarts.{rows-observed}
-use Rattle.hep_races.specs.ObservedRuns.{AreObserved, RunSteps, with_step}
-use Rattle.hep_races.specs.Renamings.{IsRenamedEvent}
+use Rattle.hep_races.specs.ObservedRuns.{AreNoted, AreObserved, RunSteps, with_step}
 use Rattle.hep_races.specs.RunNames.{run_names}
 use Rattle.hep_races.specs.declared.race_observer.RaceObserver.{RaceObserver}
 
@@ -67,7 +65,7 @@ module _ (program : Units) (range : HistoryRange) (start : range.start ≡ 0) wh
 -- the names are those of the state after them
 pub seen-renamed : (program : Units) (cells : ℕ) (range : HistoryRange) (made : List ℕ) (o : RaceObserver) (x : RunSteps)
     (entries : List Entry) → entries_until range ≡ entries → (k : AreObserved program (replay_of cells range) made o x)
-    → AllZip (IsRenamedEvent (run_names program (run program (schedule_of entries)) o.sites)) x.events k.events
+    → AreNoted (run_names program (run program (schedule_of entries)) o.sites) x.alone x.events k.noted
 seen-renamed program cells range made o x entries all k =
-    subst (λ (ps : List ℕ). AllZip (IsRenamedEvent (run_names program (run program ps) o.sites)) x.events k.events)
+    subst (λ (ps : List ℕ). AreNoted (run_names program (run program ps) o.sites) x.alone x.events k.noted)
     (processes-all 1 (entries_until range) ∙ ap schedule_of all) k.same

@@ -15,6 +15,8 @@ use crate::step_access::SitedAccess;
 use crate::step_event::{ObservedStep, look_ahead};
 use crate::storage_unit::StorageUnit;
 use crate::unit_names::UnitNames;
+use crate::watched_code::watches_for;
+use hep_advance::{Breakpoints, pass_on};
 use hep_event::{Variables, coming_of};
 use hep_fold::{DecodedImage, Observer, TurnRow, go_on};
 use hep_image::Image;
@@ -30,6 +32,8 @@ pub struct RaceObserver {
     variables: Variables,
     names: UnitNames,
     bounds: BoundNames,
+    // The indexes of the code from which a step is observed.
+    watches: Vec<Breakpoints>,
     pub(crate) sites: SiteTable,
     pub(crate) detector: Detector,
 }
@@ -42,6 +46,7 @@ impl Drop for RaceObserver {
             variables,
             names,
             bounds,
+            watches,
             sites,
             detector,
         } = self;
@@ -167,11 +172,13 @@ impl RaceObserver {
         let variables = Variables::of_image(alloc, image)?;
         let names = UnitNames::of_image(alloc, image)?;
         let bounds = BoundNames::of_image(alloc, image)?;
+        let watches = watches_for(alloc, image)?;
         Ok(RaceObserver {
             alloc,
             variables,
             names,
             bounds,
+            watches,
             sites: SiteTable::new(alloc),
             detector: Detector::new(alloc),
         })
@@ -240,7 +247,10 @@ impl Observer for RaceObserver {
 
     fn go_on(&mut self, machine: &mut CoreState, tabled: &DecodedImage<'_>, row: TurnRow) -> u64 {
         if !is_alone(machine) {
-            return 0;
+            let watches = self.watches.as_slice();
+            let passed = pass_on(machine, tabled, watches, row.process, row.count);
+            self.detector.pass(passed);
+            return passed;
         }
         let made = go_on(machine, tabled, row.process, row.count);
         self.detector.pass(made);

@@ -1,14 +1,14 @@
-use Rattle.std.proofs.Common.{◌≡◌, ◌++◌, ◌∙◌, ℕ, List, ap, length, map, nat_eq, not, refl, subst, sym, take}
+use Rattle.std.proofs.Common.{◌≡◌, ◌+◌, ◌++◌, ◌∙◌, ℕ, List, ap, length, map, nat_eq, not, refl, subst, sym, take}
 use Rattle.std.proofs.lemmas.List.{length-map}
-use Rattle.std.specs.List.{AllZip}
 use Rattle.std.specs.Option.{option_map}
 use Rattle.hep_accesses.specs.RunEvents.{events_of, races_of}
 use Rattle.hep_fold.specs.Folds.{CanBeMade, entries_until, replay_of}
 use Rattle.hep_fold.specs.declared.history_range.HistoryRange.{HistoryRange}
 use Rattle.hep_machine.specs.Words.{run, same_location, schedule_of}
+use Rattle.hep_races.proofs.NotedSteps.{noted-rows}
 use Rattle.hep_races.proofs.ObservedTurns.{take-own}
 use Rattle.hep_races.proofs.WholeRuns.{none_seen, rows-seen, schedule-none, seen-renamed, steps_seen}
-use Rattle.hep_races.specs.ObservedRuns.{AreObserved}
+use Rattle.hep_races.specs.ObservedRuns.{AreNoted, AreObserved}
 use Rattle.hep_accesses.specs.Accesses.{same_site}
 use Rattle.hep_accesses.specs.Detector.{rows_by_clocks}
 use Rattle.hep_machine.specs.declared.event.Entry.{Entry}
@@ -16,7 +16,6 @@ use Rattle.hep_races.proofs.RunRaces.{as-many-rows, text-of-rows, words_in}
 use Rattle.hep_races.proofs.run_races.history_races.Goals as goal
 use Rattle.hep_races.specs.Observed.{row_in}
 use Rattle.hep_races.specs.RaceLines.{rows_text}
-use Rattle.hep_races.specs.Renamings.{IsRenamedEvent}
 use Rattle.hep_races.specs.RunNames.{AreUnique, run_names}
 use Rattle.hep_races.specs.SeenRaces.{source_seen}
 use Rattle.hep_races.specs.declared.step_access.AccessSite.{AccessSite}
@@ -56,14 +55,15 @@ returns-clause-text c =
     ∙ ap (λ (es : List Entry). rows_by_clocks same_location same_site (events_of program (schedule_of es))) all in
     let sites = c.as_slice-sites.result.now in
     let shown = source_seen (option_map (λ l. l.now) c.args.lines) in
-    let own = subst (λ (xs : List AccessSite). AllZip (IsRenamedEvent (run_names program (run program (schedule_of entries)) xs))
-    steps.events seen.events) (sym c.as_slice-sites.ensures.all) renamed in
+    let own = noted-rows (run_names program (run program (schedule_of entries)) sites) steps.alone steps.events seen.noted (
+    subst (λ (xs : List AccessSite). AreNoted (run_names program (run program (schedule_of entries)) xs) steps.alone steps.events seen.noted)
+    (sym c.as_slice-sites.ensures.all) renamed) in
     c.in_ok-append_rows.ensures
     ∙ ap (λ (xs : List ℕ). xs ++ rows_text (words_in program sites entries shown) (map row_in c.rows-rows.result.now))
     c.new-text.ensures.items
-    ∙ ap (rows_text (words_in program sites entries shown)) (c.rows-rows.ensures steps.alone seen.events seen.detected)
+    ∙ ap (rows_text (words_in program sites entries shown)) (c.rows-rows.ensures (steps.alone + length steps.events) seen.noted seen.detected ∙ own.rows)
     ∙ text-of-rows program entries sites shown c.is_runnable.ensures.accepted c.is_runnable.ensures.main
-    (subst AreUnique (sym c.as_slice-sites.ensures.all) c.as_slice-sites.ensures.unique) steps.alone steps.events seen.events own whole
+    (subst AreUnique (sym c.as_slice-sites.ensures.all) c.as_slice-sites.ensures.unique) steps.alone steps.events own.all own.zipped whole
 
 pub returns-clause-found : goal.returns-clause-found
 returns-clause-found c =
@@ -85,11 +85,12 @@ returns-clause-found c =
     ∙ ap (λ (es : List Entry). rows_by_clocks same_location same_site (events_of program (schedule_of es))) all in
     let sites = c.as_slice-sites.result.now in
     let shown = source_seen (option_map (λ l. l.now) c.args.lines) in
-    let own = subst (λ (xs : List AccessSite). AllZip (IsRenamedEvent (run_names program (run program (schedule_of entries)) xs))
-    steps.events seen.events) (sym c.as_slice-sites.ensures.all) renamed in
+    let own = noted-rows (run_names program (run program (schedule_of entries)) sites) steps.alone steps.events seen.noted (
+    subst (λ (xs : List AccessSite). AreNoted (run_names program (run program (schedule_of entries)) xs) steps.alone steps.events seen.noted)
+    (sym c.as_slice-sites.ensures.all) renamed) in
     let rows = c.rows-rows.result.now in
     let many : length rows ≡ length (races_of program (schedule_of entries)) =
-    sym (length-map rows row_in) ∙ ap (λ rs. length rs) (c.rows-rows.ensures steps.alone seen.events seen.detected)
+    sym (length-map rows row_in) ∙ ap (λ rs. length rs) (c.rows-rows.ensures (steps.alone + length steps.events) seen.noted seen.detected ∙ own.rows)
     ∙ as-many-rows program entries sites shown c.is_runnable.ensures.accepted c.is_runnable.ensures.main
-    (subst AreUnique (sym c.as_slice-sites.ensures.all) c.as_slice-sites.ensures.unique) steps.alone steps.events seen.events own whole in
+    (subst AreUnique (sym c.as_slice-sites.ensures.all) c.as_slice-sites.ensures.unique) steps.alone steps.events own.all own.zipped whole in
     ap (λ b. not b) c.is_empty-found.ensures ∙ ap (λ n. not (nat_eq n 0)) many

@@ -1,4 +1,4 @@
-use Rattle.std.proofs.Common.{◌≡◌, ◌++◌, ◌∷◌, [], ◌∙◌, ap, arith, false, map, nat_le, refl, sym, true}
+use Rattle.std.proofs.Common.{◌≡◌, ◌+◌, ◌++◌, ◌∷◌, [], ◌∙◌, ap, arith, false, length, map, nat_le, refl, sym, true}
 use Rattle.std.proofs.lemmas.List.{length_push}
 use Rattle.std.specs.List.{list_any}
 use Rattle.hep_core.proofs.GoodTickets.{as-many}
@@ -29,9 +29,10 @@ returns-then-is_alone c at =
       variables = old.variables;
       names = old.names;
       bounds = old.bounds;
+      watches = old.watches;
       sites = old.sites;
       detector = c.pass.new.self;
-    }) at.seen at.known alone refl refl refl refl c.pass.ensures
+    }) at.seen at.known alone refl refl refl refl refl c.pass.ensures
 
 pub returns : goal.returns
 returns c at =
@@ -49,6 +50,7 @@ returns c at =
       variables = old.variables;
       names = old.names;
       bounds = old.bounds;
+      watches = old.watches;
       sites = c.numbered.new.sites;
       detector = c.observe.new.self;
     }) at.seen at.known c.in_ok-accesses.ensures.kept.0 c.in_ok-accesses.ensures.kept.1 refl refl refl top.0 c.end.new.self (
@@ -60,7 +62,7 @@ returns c at =
       changes = c.deref-2.result;
       accesses = c.deref-3.result;
     })) (
-    c.end.ensures program at.replay.cells at.made p top.0 top.1 at.stepped (at.noted top.0 top.1) at.under_way.after) (
+    c.end.ensures program at.replay.cells at.made p top.0 top.1 at.stepped (at.noted top.0 top.1) at.under_way.after) refl (
     record {
       process = refl;
       makes = refl;
@@ -69,4 +71,4 @@ returns c at =
       numbered = c.in_ok-accesses.accesses.items;
       accesses = ap (map access_in) c.deref-3.ensures.value;
       are = c.in_ok-accesses.ensures.numbered;
-    }) (c.in_ok-observe.ensures at.seen.alone at.known.events at.known.detected) several
+    }) (c.in_ok-observe.ensures (at.seen.alone + length at.seen.events) at.known.noted at.known.detected) several
