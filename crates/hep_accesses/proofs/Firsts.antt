@@ -19,11 +19,11 @@ module _ {X : Type 0} where
   filter-kept p x xs e = ap (λ b. cond b (x ∷ filter p xs) (filter p xs)) e
 
   -- one that doesn't is left out
-  filter-dropped : (p : X → Bool) (x : X) (xs : List X) → p x ≡ false → filter p (x ∷ xs) ≡ filter p xs
+  pub filter-dropped : (p : X → Bool) (x : X) (xs : List X) → p x ≡ false → filter p (x ∷ xs) ≡ filter p xs
   filter-dropped p x xs e = ap (λ b. cond b (x ∷ filter p xs) (filter p xs)) e
 
   -- two filters can be exchanged
-  filter-swap : (p q : X → Bool) (xs : List X) → filter p (filter q xs) ≡ filter q (filter p xs)
+  pub filter-swap : (p q : X → Bool) (xs : List X) → filter p (filter q xs) ≡ filter q (filter p xs)
   filter-swap p q [] = refl
   filter-swap p q (x ∷ xs) = by (filter-swap p q xs) (p x) (q x) refl refl
     where

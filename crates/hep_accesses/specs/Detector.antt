@@ -53,5 +53,9 @@ module _ {L S : Type 0} (same : L → L → Bool) (alike : S → S → Bool) whe
   detector_from n x [] = x
   detector_from n x (e ∷ es) = detector_from (suc n) (detector_after n x e) es
 
+  -- the rows of these steps alone, the first of which has this number
+  abbrev pub rows_from : ℕ → List (Event L S) → List (Row L S)
+  rows_from n es = (detector_from n (record { clocks = zero_clocks; table = λ at. []; rows = [] }) es).rows
+
   abbrev pub rows_by_clocks : List (Event L S) → List (Row L S)
-  rows_by_clocks es = (detector_from 0 (record { clocks = zero_clocks; table = λ at. []; rows = [] }) es).rows
+  rows_by_clocks es = rows_from 0 es

@@ -1,11 +1,11 @@
 -- The clocks after a step, from those that the code takes out and puts back.
-use Rattle.std.proofs.Common.{◌≡◌, ℕ, suc, ◌+◌, ◌≤◌, Bool, true, false, ◌||◌}
-use Rattle.std.proofs.Common.{if◌then◌else◌, max, nat_eq, List, [], ◌∷◌, length, Option, None, Some}
-use Rattle.std.proofs.Common.{refl, sym, ap, ◌∙◌, ◌++◌, subst, arith}
+use Rattle.std.proofs.Common.{◌≡◌, ℕ, suc, ◌<◌, ◌≤◌, Bool, true, false, ◌||◌}
+use Rattle.std.proofs.Common.{if◌then◌else◌, max, nat_eq, List, [], ◌∷◌, Option, None, Some}
+use Rattle.std.proofs.Common.{refl, ◌∙◌, subst, arith}
 use Rattle.std.proofs.Math.Path.{fun_ext}
 use Rattle.std.proofs.lemmas.Bool.{eqb-true}
 use Rattle.hep_accesses.specs.Clocks.{Clock, Clocks, clock_before, clock_of_need, clocks_after, joined, ticked}
-use Rattle.hep_accesses.specs.Detector.{Detector, detector_after, detector_after_accesses, detector_from}
+use Rattle.hep_accesses.specs.Detector.{Detector, detector_after_accesses}
 use Rattle.hep_accesses.specs.Events.{Access, Event, is_made, leads_to}
 
 -- no clock knows a step from n on
@@ -40,6 +40,30 @@ module _ {L S : Type 0} where
       at_unit : (at : L) (q : ℕ) (b : Bool) → (if b then ticked n e.process (clock_before x e) else x.of_location at) q ≤ suc n
       at_unit at q true = ticked-within n x e h q
       at_unit at q false = omega (arith, h.unit at q)
+
+  -- so after an earlier step no clock knows a step from n on
+  pub within-later : (n m : ℕ) (x : Clocks L) (e : Event L S) → m < n → AreWithin n x → AreWithin n (clocks_after m x e)
+  within-later n m x e early h = record { process = λ p q. at_process p q (leads_to e p); unit = λ at q. at_unit at q (e.changes at) }
+    where
+      need : (o : Option L) (q : ℕ) → clock_of_need x o q ≤ n
+      need None q = omega arith
+      need (Some at) q = h.unit at q
+
+      clock : (q : ℕ) (b : Bool) → (if b then suc m else max (x.of_process e.process q) (clock_of_need x e.needs q)) ≤ n
+      clock q true = omega (arith, early)
+      clock q false = omega (arith, h.process e.process q, need e.needs q)
+
+      ticks : (q : ℕ) → ticked m e.process (clock_before x e) q ≤ n
+      ticks q = clock q (nat_eq e.process q)
+
+      at_process : (p q : ℕ) (b : Bool)
+          → (if b then joined (ticked m e.process (clock_before x e)) (x.of_process p) else x.of_process p) q ≤ n
+      at_process p q true = omega (arith, ticks q, h.process p q)
+      at_process p q false = h.process p q
+
+      at_unit : (at : L) (q : ℕ) (b : Bool) → (if b then ticked m e.process (clock_before x e) else x.of_location at) q ≤ n
+      at_unit at q true = ticks q
+      at_unit at q false = h.unit at q
 
   -- a process joins nothing new from its own clock
   own-joined : (n : ℕ) (x : Clocks L) (e : Event L S) → AreWithin n x → (q : ℕ)
@@ -92,32 +116,7 @@ module _ {L S : Type 0} where
 
 module _ {L S : Type 0} (same : L → L → Bool) (alike : S → S → Bool) where
   -- accesses leave the clocks as they are
-  clocks-kept : (c : Clock) (n p : ℕ) (accesses : List (Access L S)) (x : Detector L S)
+  pub clocks-kept : (c : Clock) (n p : ℕ) (accesses : List (Access L S)) (x : Detector L S)
       → (detector_after_accesses same alike c n p accesses x).clocks ≡ x.clocks
   clocks-kept c n p [] x = refl
   clocks-kept c n p (a ∷ others) x = clocks-kept c n p others _
-
-  -- no clock of a run knows a step that is still to come
-  pub run-within : (n m : ℕ) (x : Detector L S) (es : List (Event L S)) → m ≡ n + length es → AreWithin n x.clocks
-      → AreWithin m (detector_from same alike n x es).clocks
-  unfolding detector_from
-  run-within n m x [] t h = subst (λ k. AreWithin k x.clocks) (by n m t) h
-    where
-      by : (n m : ℕ) → m ≡ n + 0 → n ≡ m
-      by n m t = omega arith
-  run-within n m x (e ∷ es) t h =
-      run-within (suc n) m (detector_after same alike n x e) es (omega arith) (
-      subst (AreWithin (suc n)) (
-      sym (
-      clocks-kept (clock_before x.clocks e) n e.process e.accesses (
-      record { clocks = clocks_after n x.clocks e; table = x.table; rows = x.rows }))) (within-more n x.clocks e h))
-
-  -- one event more at the end
-  pub run-more : (n m : ℕ) (x : Detector L S) (es : List (Event L S)) (e : Event L S) → m ≡ n + length es
-      → detector_from same alike n x (es ++ e ∷ []) ≡ detector_after same alike m (detector_from same alike n x es) e
-  unfolding detector_from
-  run-more n m x [] e t = ap (λ k. detector_after same alike k x e) (by n m t)
-    where
-      by : (n m : ℕ) → m ≡ n + 0 → n ≡ m
-      by n m t = omega arith
-  run-more n m x (d ∷ es) e t = run-more (suc n) m (detector_after same alike n x d) es e (omega arith)

@@ -25,6 +25,12 @@ pub mod ActualsGiven
 pub mod BlocksNamed
 pub mod ReadBounds
 pub mod RenamedSteps
+pub mod QuietSteps
+pub mod NotedSteps
+pub mod QuietTurns
 pub mod ObservedTurns
+pub mod SameFromStep
+pub mod SerialStarts
+pub mod WholeRuns
 pub mod DistinctSites
 pub mod RunRaces

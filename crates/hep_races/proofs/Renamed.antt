@@ -5,7 +5,7 @@ use Rattle.std.proofs.Common.{Option, Some, None, refl, sym, ap, subst}
 use Rattle.std.specs.List.{AllZip, filter}
 use Rattle.hep_accesses.specs.Clocks.{Clock, Clocks, clock_before, clock_of_need, clocks_after, joined, ticked, zero_clocks}
 use Rattle.hep_accesses.specs.Detector.{Detector, Table, detector_after, detector_after_accesses, detector_from, is_racing_by_clock}
-use Rattle.hep_accesses.specs.Detector.{is_repeated, racing_by_clock, rows_by_clocks, with_access}
+use Rattle.hep_accesses.specs.Detector.{is_repeated, racing_by_clock, rows_from, with_access}
 use Rattle.hep_accesses.specs.Events.{Access, Event, is_made}
 use Rattle.hep_accesses.specs.Firsts.{first_of_each}
 use Rattle.hep_accesses.specs.Races.{Row, StepAccess, conflicts, from_same_site, is_row_of, with_pair, with_pairs}
@@ -226,10 +226,10 @@ module _ {L M S T : Type 0} (r : Renaming L M S T) (same : L → L → Bool) (sa
       run-kept (suc n) (detector_after same alike n x d) (detector_after same_there alike_there n y e) (step-kept n x y h d e k.0) ds es k.1
 
   -- the rows of a run go along with other names of its storage units and sites
-  pub rows-renamed : (ds : List (Event L S)) (es : List (Event M T)) → AllZip (IsRenamedEvent r) ds es
-      → AllZip (IsRenamedRow r) (rows_by_clocks same alike ds) (rows_by_clocks same_there alike_there es)
-  rows-renamed ds es k =
+  pub rows-renamed : (n : ℕ) (ds : List (Event L S)) (es : List (Event M T)) → AllZip (IsRenamedEvent r) ds es
+      → AllZip (IsRenamedRow r) (rows_from same alike n ds) (rows_from same_there alike_there n es)
+  rows-renamed n ds es k =
       (
-      run-kept 0 (record { clocks = zero_clocks; table = λ at. []; rows = [] }) (
+      run-kept n (record { clocks = zero_clocks; table = λ at. []; rows = [] }) (
       record { clocks = zero_clocks; table = λ at. []; rows = [] }) (
       record { clocks = record { process = refl; unit = λ at u m. refl }; table = λ at u m. tt; rows = tt }) ds es k).rows

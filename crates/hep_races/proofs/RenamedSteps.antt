@@ -144,7 +144,7 @@ module _ (program : Units) (f : State) (sites more : List AccessSite) where
         site = (at-front sites more e.site (site_in d.site) h.site.0, h.site.1);
       }
 
-  event-later : (d : Event) (e : AnEvent StorageUnit ℕ) → IsRenamedEvent old d e → IsRenamedEvent new d e
+  pub event-later : (d : Event) (e : AnEvent StorageUnit ℕ) → IsRenamedEvent old d e → IsRenamedEvent new d e
   event-later d e h =
       record {
         process = h.process;
@@ -153,7 +153,3 @@ module _ (program : Units) (f : State) (sites more : List AccessSite) where
         changes = h.changes;
         accesses = zipped-later (IsRenamedAccess old) (IsRenamedAccess new) access-later d.accesses e.accesses h.accesses;
       }
-
-  pub events-later : (ds : List Event) (es : List (AnEvent StorageUnit ℕ)) → AllZip (IsRenamedEvent old) ds es
-      → AllZip (IsRenamedEvent new) ds es
-  events-later = zipped-later (IsRenamedEvent old) (IsRenamedEvent new) event-later

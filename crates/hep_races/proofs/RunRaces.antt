@@ -9,7 +9,7 @@ use Rattle.std.specs.List.{AllZip, flat_map}
 use Rattle.std.specs.Option.{unwrap_or}
 use Rattle.hep_accepted_laws.proofs.Closed.{units-there}
 use Rattle.hep_accesses.specs.Accesses.{Site, same_site}
-use Rattle.hep_accesses.specs.RunEvents.{Row, events_of, races_of}
+use Rattle.hep_accesses.specs.RunEvents.{Event, Row, events_of, races_of}
 use Rattle.hep_conditions.specs.Words.{IsAccepted}
 use Rattle.hep_event.specs.Names.{name_found}
 use Rattle.hep_image.specs.Names.{names_in_order, spellings_of}
@@ -18,7 +18,7 @@ use Rattle.hep_machine.specs.Words.{Location, State, Units, block_spelling, bloc
 use Rattle.hep_machine.specs.Words.{same_name, schedule_of, state_after, unit_at, unit_name, unit_of}
 use Rattle.hep_accesses.proofs.SiteTests.{site-equivalence}
 use Rattle.hep_accesses.proofs.SameRows.{same-rows}
-use Rattle.hep_accesses.specs.Detector.{rows_by_clocks}
+use Rattle.hep_accesses.specs.Detector.{rows_by_clocks, rows_from}
 use Rattle.hep_accesses.specs.Events.{Event as AnEvent}
 use Rattle.hep_source.proofs.NameTests.{equal_names}
 use Rattle.hep_state_text.specs.States.{place_text}
@@ -113,14 +113,17 @@ module _ (program : Units) (entries : List Entry) (sites : List AccessSite) (sho
 
   -- ---- the text
 
-  pub text-of-rows : (fs : List (AnEvent StorageUnit ℕ)) → AllZip (IsRenamedEvent r) (events_of program ps) fs
-      → rows_text (words_in program sites entries shown) (rows_by_clocks unit_eq nat_eq fs) ≡ races_text shown program entries
+  -- of these steps alone, where all rows are theirs
+  pub text-of-rows : (n : ℕ) (es : List Event) (fs : List (AnEvent StorageUnit ℕ)) → AllZip (IsRenamedEvent r) es fs
+      → rows_from same_location same_site n es ≡ rows_by_clocks same_location same_site (events_of program ps)
+      → rows_text (words_in program sites entries shown) (rows_from unit_eq nat_eq n fs) ≡ races_text shown program entries
   unfolding races_text state_after
-  text-of-rows fs h =
+  text-of-rows n es fs h all =
       lines-same r (words_after shown program entries) (words_in program sites entries shown) unit-words site-words (λ n. refl) (λ n. refl)
-      (rows_by_clocks same_location same_site (events_of program ps)) (rows_by_clocks unit_eq nat_eq fs)
-      (rows-renamed r same_location unit_eq same_site nat_eq tests (events_of program ps) fs h)
-      ∙ ap (rows_text (words_after shown program entries)) (same-rows same_location same_site site-equivalence (events_of program ps))
+      (rows_from same_location same_site n es) (rows_from unit_eq nat_eq n fs)
+      (rows-renamed r same_location unit_eq same_site nat_eq tests n es fs h)
+      ∙ ap (rows_text (words_after shown program entries)) (
+      all ∙ same-rows same_location same_site site-equivalence (events_of program ps))
 
   same-length : {X Y : Type 0} (R : X → Y → Type 0) (xs : List X) (ys : List Y) → AllZip R xs ys → length ys ≡ length xs
   same-length R [] [] h = refl
@@ -129,9 +132,11 @@ module _ (program : Units) (entries : List Entry) (sites : List AccessSite) (sho
   same-length R (x ∷ xs) (y ∷ ys) h = ap suc (same-length R xs ys h.1)
 
   -- there are as many rows
-  pub as-many-rows : (fs : List (AnEvent StorageUnit ℕ)) → AllZip (IsRenamedEvent r) (events_of program ps) fs
-      → length (rows_by_clocks unit_eq nat_eq fs) ≡ length (races_of program ps)
-  as-many-rows fs h =
-      same-length (IsRenamedRow r) (rows_by_clocks same_location same_site (events_of program ps)) (rows_by_clocks unit_eq nat_eq fs)
-      (rows-renamed r same_location unit_eq same_site nat_eq tests (events_of program ps) fs h)
-      ∙ ap (λ (rows : List Row). length rows) (same-rows same_location same_site site-equivalence (events_of program ps))
+  pub as-many-rows : (n : ℕ) (es : List Event) (fs : List (AnEvent StorageUnit ℕ)) → AllZip (IsRenamedEvent r) es fs
+      → rows_from same_location same_site n es ≡ rows_by_clocks same_location same_site (events_of program ps)
+      → length (rows_from unit_eq nat_eq n fs) ≡ length (races_of program ps)
+  as-many-rows n es fs h all =
+      same-length (IsRenamedRow r) (rows_from same_location same_site n es) (rows_from unit_eq nat_eq n fs)
+      (rows-renamed r same_location unit_eq same_site nat_eq tests n es fs h)
+      ∙ ap (λ (rows : List Row). length rows) (
+      all ∙ same-rows same_location same_site site-equivalence (events_of program ps))

@@ -16,4 +16,5 @@ pub mod NamesInBounds
 pub mod StepEvents
 pub mod BoundReads
 pub mod RunNames
+pub mod WatchedCode
 pub mod ObservedRuns

@@ -1,9 +1,6 @@
 //! The detector of races.
-ghost use Rattle.std.specs.Prelude.{◌≡◌, ℕ, [], ◌∷◌, ◌++◌, List, OnOk, map, nat_eq};
-ghost use Rattle.hep_accesses.specs.Detector.{rows_by_clocks};
-ghost use Rattle.hep_accesses.specs.Events.{Event as AnEvent};
-ghost use Rattle.hep_races.specs.declared.storage_unit.StorageUnit.{StorageUnit as PureUnit};
-ghost use Rattle.hep_races.specs.Detectors.{IsDetectorOf};
+ghost use Rattle.std.specs.Prelude.{◌≡◌, ◌+◌, ◌<◌, ◌^◌, ℕ, [], ◌∷◌, ◌++◌, OnOk, map, nat_eq};
+ghost use Rattle.hep_races.specs.Detectors.{IsDetectorOf, NumberedEvents, rows_along};
 ghost use Rattle.hep_races.specs.Observed.{event_in, row_in, unit_eq};
 
 use crate::clock::tick;
@@ -36,7 +33,7 @@ impl Drop for Detector {
 impl Detector {
     /// No step is observed yet. This takes no memory.
     pub fn new(alloc: Global) -> Detector
-        ensures { IsDetectorOf [] result }
+        ensures { IsDetectorOf 0 [] result }
     {
         Detector {
             steps: 0,
@@ -45,14 +42,22 @@ impl Detector {
         }
     }
 
+    /// Passes over the next steps of the run, so many: they are counted, and not observed.
+    pub fn pass(&mut self, count: u64)
+        requires few { self.old.steps + count < 2 ^ 64 }
+        ensures { (n : ℕ) (es : NumberedEvents) → IsDetectorOf n es self.old → IsDetectorOf (n + count) es self.new }
+    {
+        self.steps += count;
+    }
+
     /// Observes the next step of the run.
     ///
     /// # Errors
     ///
     /// Where memory was refused, and where a number would pass 2^64 - 1. The detector is of no more use then.
     pub fn observe(&mut self, event: &StepEvent) -> Result<(), AllocError>
-        ensures { OnOk result ((es : List (AnEvent PureUnit ℕ)) → IsDetectorOf es self.old
-            → IsDetectorOf (es ++ event_in event.now ∷ []) self.new) }
+        ensures { OnOk result ((n : ℕ) (es : NumberedEvents) → IsDetectorOf n es self.old
+            → IsDetectorOf (n + 1) (es ++ (n, event_in event.now) ∷ []) self.new) }
     {
         let step = self.steps;
         self.steps = successor(step)?;
@@ -65,7 +70,7 @@ impl Detector {
 
     /// The rows of the races so far, in the order in which they came up.
     pub fn rows(&self) -> &[Row]
-        ensures { (es : List (AnEvent PureUnit ℕ)) → IsDetectorOf es self.now → map row_in result.now ≡ rows_by_clocks unit_eq nat_eq es }
+        ensures { (n : ℕ) (es : NumberedEvents) → IsDetectorOf n es self.now → map row_in result.now ≡ rows_along unit_eq nat_eq es }
     {
         self.table.rows()
     }

@@ -28,6 +28,7 @@ pub mod step_event;
 mod storage_unit;
 mod table;
 pub mod unit_names;
+mod watched_code;
 
 pub use bound_names::BoundNames;
 pub use detector::Detector;

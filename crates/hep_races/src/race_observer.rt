@@ -1,5 +1,5 @@
 //! An observer of a history's turns that finds the races.
-ghost use Rattle.std.specs.Prelude.{◌≡◌, ◌++◌, ◌∷◌, [], ℕ, IfOk, List, OnOk, map};
+ghost use Rattle.std.specs.Prelude.{◌≡◌, ◌++◌, ◌∷◌, [], ℕ, IfOk, List, OnOk, map, nat_le};
 ghost use Rattle.std.specs.Option.{option_map, option_to_list};
 ghost use Rattle.hep_fold.specs.Observers.{Replay};
 ghost use Rattle.hep_races.specs.ObservedRuns.{AreNumbered, AreObserved};
@@ -15,8 +15,10 @@ use crate::step_access::SitedAccess;
 use crate::step_event::{ObservedStep, look_ahead};
 use crate::storage_unit::StorageUnit;
 use crate::unit_names::UnitNames;
+use crate::watched_code::watches_for;
+use hep_advance::{Breakpoints, pass_on};
 use hep_event::{Variables, coming_of};
-use hep_fold::{DecodedImage, Observer, TurnRow};
+use hep_fold::{DecodedImage, Observer, TurnRow, go_on};
 use hep_image::Image;
 use hep_machine::laws::numbers_rise;
 use hep_state::CoreState;
@@ -30,6 +32,8 @@ pub struct RaceObserver {
     variables: Variables,
     names: UnitNames,
     bounds: BoundNames,
+    // The indexes of the code from which a step is observed.
+    watches: Vec<Breakpoints>,
     pub(crate) sites: SiteTable,
     pub(crate) detector: Detector,
 }
@@ -42,6 +46,7 @@ impl Drop for RaceObserver {
             variables,
             names,
             bounds,
+            watches,
             sites,
             detector,
         } = self;
@@ -147,6 +152,13 @@ fn numbered(
     Ok(numbered)
 }
 
+// Whether there was one process alone so far. Its steps race with nothing, since it makes each other process after them.
+fn is_alone(machine: &CoreState) -> bool
+    ensures { result ≡ nat_le machine.now.made 1 }
+{
+    machine.made <= 1
+}
+
 impl RaceObserver {
     /// An observer that has observed no turn of an image's program.
     ///
@@ -154,16 +166,19 @@ impl RaceObserver {
     ///
     /// Only where memory was refused.
     pub fn new(alloc: Global, image: &Image) -> Result<RaceObserver, AllocError>
-        ensures { IfOk result (λ observer. (replay : Replay) (made : List ℕ) → AreObserved image.now replay made observer []) }
+        ensures { IfOk result (λ observer. (replay : Replay)
+            → AreObserved image.now replay [] observer (record { alone = 0; events = [] })) }
     {
         let variables = Variables::of_image(alloc, image)?;
         let names = UnitNames::of_image(alloc, image)?;
         let bounds = BoundNames::of_image(alloc, image)?;
+        let watches = watches_for(alloc, image)?;
         Ok(RaceObserver {
             alloc,
             variables,
             names,
             bounds,
+            watches,
             sites: SiteTable::new(alloc),
             detector: Detector::new(alloc),
         })
@@ -171,9 +186,9 @@ impl RaceObserver {
 }
 
 impl Observer for RaceObserver {
-    ghost use Rattle.hep_races.specs.ObservedRuns.{AreObserved, Events, IsNoted, with_step};
+    ghost use Rattle.hep_races.specs.ObservedRuns.{AreObserved, IsNoted, RunSteps, with_step};
 
-    ghost Seen = { Events };
+    ghost Seen = { RunSteps };
 
     ghost knows = { AreObserved };
 
@@ -211,6 +226,10 @@ impl Observer for RaceObserver {
         look: ObservedStep,
     ) -> Result<(), AllocError> {
         numbers_rise();
+        if is_alone(machine) {
+            self.detector.pass(1);
+            return Ok(());
+        }
         let mut step = look;
         step.end(machine);
         let changes = units_of(self.alloc, &step.changes)?;
@@ -227,6 +246,14 @@ impl Observer for RaceObserver {
     }
 
     fn go_on(&mut self, machine: &mut CoreState, tabled: &DecodedImage<'_>, row: TurnRow) -> u64 {
-        0
+        if !is_alone(machine) {
+            let watches = self.watches.as_slice();
+            let passed = pass_on(machine, tabled, watches, row.process, row.count);
+            self.detector.pass(passed);
+            return passed;
+        }
+        let made = go_on(machine, tabled, row.process, row.count);
+        self.detector.pass(made);
+        made
     }
 }

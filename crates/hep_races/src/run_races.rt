@@ -10,6 +10,7 @@ use crate::race_lines::{RaceSources, append_rows};
 use crate::race_observer::RaceObserver;
 use hep_fold::{HistoryRange, fold_history};
 use hep_image::Image;
+use hep_machine::laws::numbers_rise;
 use hep_replay::HistoryPrefix;
 use hep_state_text::Listing;
 use std::alloc::{AllocError, Global};
@@ -42,6 +43,7 @@ pub fn history_races(
         ≡ not (nat_eq (length (races_of image.now (schedule_of (first_of entries.entry)))) 0)) }
 {
     image.is_runnable();
+    numbers_rise();
     let mut observer = RaceObserver::new(alloc, image)?;
     let end = entries.len();
     let range = HistoryRange {

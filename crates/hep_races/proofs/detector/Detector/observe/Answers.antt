@@ -7,8 +7,8 @@ use Rattle.hep_races.proofs.ObservedMore.{observed-more}
 use Rattle.hep_races.proofs.detector.Detector.observe.Goals as goal
 
 pub returns : goal.returns
-returns c = λ es h.
-    observed-more es (event_in c.args.event.now) c.args.self.now (
+returns c = λ n es h.
+    observed-more n es (event_in c.args.event.now) c.args.self.now (
     record { steps = c.in_ok-self.field-0; clocks = c.put_after.new.self; table = c.note_accesses.new.self }) h
     (clock_in c.in_ok-clock.clock.items) (clock_in c.tick.new.clock.items) (clocks_in c.take_before.new.self) c.in_ok-self.ensures
     c.in_ok-clock.ensures.taken c.in_ok-clock.ensures.others c.in_ok-clock.ensures.units (λ x.
