@@ -6,9 +6,8 @@ use Rattle.hep_source.proofs.Tests.{and-true, number-self}
 use Rattle.hep_source.specs.declared.statement.Form.TheVariants as form
 use Rattle.hep_machine.specs.Words.{Form, Name, Occurrence, Statement, Units, constants_in, is_among, occurrences_in_statement, same_name, subroutine_called, subroutine_name}
 use Rattle.hep_conditions.specs.declared.violation.Violation.{Violation}
-use Rattle.hep_conditions.specs.Names.{is_untyped}
 use Rattle.hep_source.proofs.NameTests.{equal_names}
-use Rattle.hep_conditions.specs.Words.{Calling, FunctionTypes, Parameters, Violations, argument_violations, at_line, at_occurrence, calls_in, common_violations, count_violations, data_violations, function_types, is_resume, is_statement_typed, jump_violations, label_violations, name_violations, names_with_lists, no_parameters, resume_violations, structure_violations, type_missing_violations, type_violations, type_violations_from, unknown_name_violations, unknown_references, unknown_subroutines, unknown_targets, untyped_in, when, with_parameters}
+use Rattle.hep_conditions.specs.Words.{Calling, FunctionTypes, Parameters, Violations, argument_violations, at_line, at_occurrence, calls_in, common_violations, count_violations, data_violations, function_types, is_resume, is_statement_typed, jump_violations, label_violations, name_violations, names_with_lists, no_parameters, resume_violations, structure_violations, type_missing_violations, type_violations, type_violations_from, unknown_name_violations, unknown_references, unknown_subroutines, unknown_targets, untyped_in, when, with_parameters, is_untyped}
 use Rattle.hep_types.specs.CallPasses.{is_mismatched}
 use Rattle.hep_names.specs.Parts.{is_miscounted, unknown_in_form, unknown_listed}
 use Rattle.hep_names.proofs.Passes.{unknown-targets}

@@ -1,4 +1,3 @@
-pub mod FirstFound
 pub mod NotedNames
 pub mod Walk
 pub mod LineSets
@@ -6,6 +5,7 @@ pub mod Members
 pub mod StatementLines
 pub mod Sound
 pub mod Complete
+pub mod FirstLines
 pub mod FirstOfSeveral
 mod OtherViolations
 pub mod FrameSizes

@@ -8,8 +8,7 @@ use Rattle.hep_source.proofs.Tests.{and-false, or-false, or-true}
 use Rattle.hep_source.specs.declared.statement.Form.TheVariants as form
 use Rattle.hep_machine.specs.Words.{Form, Name, Occurrence, Statement, Target, Units, constants_in, is_among, occurrences_in_statement, subroutine_called, subroutine_name}
 use Rattle.hep_conditions.specs.declared.violation.Violation.{Violation}
-use Rattle.hep_conditions.specs.Names.{is_untyped}
-use Rattle.hep_conditions.specs.Words.{Calling, FunctionTypes, NameWithList, Parameters, Violations, argument_violations, at_line, at_occurrence, calls_in, common_violations, count_violations, data_violations, fits_call, fits_reference, function_types, is_call_counted, is_counted, is_reference_counted, is_reference_given, is_resume, is_statement_typed, jump_violations, label_violations, name_violations, names_with_lists, no_parameters, resume_violations, structure_violations, targets_purged, type_missing_violations, type_violations, type_violations_from, unknown_name_violations, unknown_references, unknown_subroutines, unknown_targets, untyped_in, violations, violations_in, when, with_parameters}
+use Rattle.hep_conditions.specs.Words.{Calling, FunctionTypes, NameWithList, Parameters, Violations, argument_violations, at_line, at_occurrence, calls_in, common_violations, count_violations, data_violations, fits_call, fits_reference, function_types, is_call_counted, is_counted, is_reference_counted, is_reference_given, is_resume, is_statement_typed, jump_violations, label_violations, name_violations, names_with_lists, no_parameters, resume_violations, structure_violations, targets_purged, type_missing_violations, type_violations, type_violations_from, unknown_name_violations, unknown_references, unknown_subroutines, unknown_targets, untyped_in, violations, violations_in, when, with_parameters, is_untyped}
 use Rattle.hep_types.specs.CallPasses.{is_given, is_mismatched, is_purgeable}
 use Rattle.hep_names.specs.Parts.{is_miscounted, unknown_in_form, unknown_listed}
 use Rattle.hep_names.proofs.Passes.{unknown-targets}

@@ -5,8 +5,7 @@ use Rattle.std.proofs.lemmas.Bool.{cases_lt, eqb-true}
 use Rattle.std.proofs.lemmas.List.Elements.{Contains-append_cases, Contains-get_or}
 use Rattle.std.proofs.lemmas.Option.{none-some, same_Some, unwrap_or-slice_get}
 use Rattle.hep_source.specs.declared.statement.Form.TheVariants as form
-use Rattle.hep_source.specs.Defaults.{no_statement}
-use Rattle.hep_machine.specs.Words.{BlockName, Constants, Form, Name, Role, Statement, Stretch, Units, alternative, blocks_of, closes, constants_in, function_named, given_by, groups_in, index_labelled, is_external, is_labelled, line_at, opens, other, otherwise, role_of, same_name, statement_at}
+use Rattle.hep_machine.specs.Words.{BlockName, Constants, Form, Name, Role, Statement, Stretch, Units, alternative, blocks_of, closes, constants_in, function_named, given_by, groups_in, index_labelled, is_external, is_labelled, line_at, opens, other, otherwise, role_of, same_name, statement_at, no_statement}
 use Rattle.hep_conditions.specs.Common as common
 use Rattle.hep_conditions.specs.declared.violation.Violation.{Violation}
 use Rattle.hep_conditions.specs.Nesting.{BlockIfs, indexed_from, range_by, range_to, with_all, with_division, with_end_if, with_role}

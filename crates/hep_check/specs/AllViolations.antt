@@ -3,9 +3,8 @@ use Rattle.std.specs.Prelude.{ℕ, Bool, not, ◌&&◌, nat_eq, if◌then◌else
 use Rattle.std.specs.List.{flat_map, list_any}
 use Rattle.hep_source.specs.declared.statement.Form.TheVariants as form
 use Rattle.hep_machine.specs.Words.{Form, Name, Occurrence, Statement, Units, is_among, occurrences_in_statement, subroutine_called, subroutine_name}
-use Rattle.hep_conditions.specs.Names.{is_untyped}
 use Rattle.hep_conditions.specs.declared.violation.Violation.{Violation}
-use Rattle.hep_conditions.specs.Words.{FunctionTypes, Parameters, Violations, at_line, at_occurrence, common_violations, data_violations, function_types, is_resume, is_statement_typed, jump_violations, label_violations, name_violations, names_with_lists, no_parameters, structure_violations, when}
+use Rattle.hep_conditions.specs.Words.{FunctionTypes, Parameters, Violations, at_line, at_occurrence, common_violations, data_violations, function_types, is_resume, is_statement_typed, jump_violations, label_violations, name_violations, names_with_lists, no_parameters, structure_violations, when, is_untyped}
 use Rattle.hep_check.specs.Culprits.{miscounted, misfit}
 use Rattle.hep_names.specs.Parts.{unknown_by, unknown_in_form, unknown_listed}
 use Rattle.hep_types.specs.Passes.{parameters_after}

@@ -1,6 +1,6 @@
 -- The name at fault in an expression: the first name of a part that has the wrong type, or that is an array where a scalar is needed:
 -- docs/MACHINE.md, "Notes".
-use Rattle.std.specs.Prelude.{Bool, if◌then◌else◌, List, Option, Some, None}
+use Rattle.std.specs.Prelude.{if◌then◌else◌, List, Option, Some, None}
 use Rattle.hep_machine.specs.Words.{Tree, Trees, constant, occurrence, with_list, parenthesized, signed, negated, binary, no_trees, trees, Occurrence, Operator, Statement, ValueType, Integer, Logical, is_array, Meaning, element, pure, state, external, listed_meaning}
 use Rattle.hep_conditions.specs.Statements as types
 use Rattle.hep_conditions.specs.Statements.{FunctionTypes, has_dimensions, is_of, type_of_tree}

@@ -3,8 +3,7 @@
 use Rattle.std.specs.Prelude.{Bool, not, ◌||◌, if◌then◌else◌, List, [], ◌∷◌, Option, Some, None}
 use Rattle.hep_source.specs.declared.statement.Form.TheVariants as form
 use Rattle.hep_source.specs.declared.statement.PrintItem.TheVariants as item
-use Rattle.hep_source.specs.declared.statement.DoControl.{DoControl}
-use Rattle.hep_machine.specs.Words.{Tree, trees_of, Declarator, Form, Occurrence, PrintItem, Statement, Target, ValueType, Integer, Logical, element, external, is_array, is_nonempty}
+use Rattle.hep_machine.specs.Words.{Tree, trees_of, Declarator, Form, Occurrence, PrintItem, Statement, Target, ValueType, Integer, Logical, element, external, is_array, is_nonempty, DoControl}
 use Rattle.hep_conditions.specs.Statements.{FunctionTypes, agree, is_of, is_scalar_target, is_type_of, type_of_target, type_of_tree}
 use Rattle.hep_check.specs.SoleNames.{lone_declared}
 use Rattle.hep_check.specs.ExpressionCulprits as trees

@@ -14,10 +14,9 @@ use crate::untyped_names::{add_untyped, is_any_untyped};
 use crate::violation_lines::{ProgramLines, UnitLines};
 use hep_conditions::Violation;
 use hep_names::occurrences::occurrences;
-use hep_names::{ProgramSymbols, Symbols, names_with_lists};
+use hep_names::{NameSet, ProgramSymbols, Symbols, names_with_lists};
 use hep_source::Statement;
 use hep_types::{Parameters, is_statement_typed};
-use hep_values::NameSet;
 use std::alloc::{AllocError, Global};
 
 // Adds 310 of a statement.

@@ -14,7 +14,7 @@ use std::alloc::{AllocError, Global};
 fn is_list_counted(program: &ProgramSymbols, symbols: &Symbols, name: &NameWithList) -> bool
     ensures { result ≡ words.is_list_counted program.now symbols.now (listed name.now) }
 {
-    is_counted(symbols, name) && is_reference_counted(program, symbols, name)
+    is_counted(symbols.listed(), name) && is_reference_counted(program, symbols, name)
 }
 
 // The first name whose list has a wrong number of arguments.

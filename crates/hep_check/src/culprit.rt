@@ -12,7 +12,7 @@ use crate::sole_names::{lone_block, lone_target, unit_header};
 use hep_conditions::Violation;
 use hep_names::{ProgramSymbols, Symbols};
 use hep_source::{Name, Occurrence, Statement};
-use hep_types::ambiguous_names::is_of_the_language;
+use hep_types::all_ambiguities::is_of_the_language;
 use std::alloc::{AllocError, Global};
 
 /// The part of a statement that violates a condition.

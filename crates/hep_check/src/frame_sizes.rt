@@ -1,46 +1,33 @@
 //! The number of cells of a unit's frame (docs/MACHINE.md, "Variables and frames").
 ghost use Rattle.std.specs.Prelude.{◌≡◌, ◌<◌, ◌^◌, map, if◌then◌else◌, IfOk};
-ghost use Rattle.hep_machine.specs.Words.{dummies_of, value_among, constant_value, cells_of_all};
+ghost use Rattle.hep_machine.specs.Words.{dummies_of, cells_of_all};
 ghost use Rattle.hep_machine.specs.Variables as variables;
 
-use hep_names::{ProgramSymbols, Symbols};
+use hep_names::{ProgramSymbols, Symbols, adjustable_dimensions, cells_of};
 use hep_source::{Form, Name, Statement};
-use hep_values::named_constants::constants;
-use hep_values::{Constants, adjustable_dimensions, cells_of};
 use std::alloc::{AllocError, Global};
 
 // The number of cells of these variables of a unit.
-fn cells_of_names(
-    alloc: Global,
-    symbols: &Symbols,
-    constants: &Constants,
-    names: &[Name],
-) -> Result<u128, AllocError>
-    requires { value_among constants.now ≡ constant_value symbols.now }
+fn cells_of_names(alloc: Global, symbols: &Symbols, names: &[Name]) -> Result<u128, AllocError>
     ensures counted { IfOk result (λ cells. cells ≡ cells_of_all symbols.now names.now) }
     ensures bounded { IfOk result (λ cells. cells < 2 ^ 96) }
 {
     let mut cells = 0;
     for name in names {
-        let count = cells_of(alloc, symbols, constants, name)?;
+        let count = cells_of(alloc, symbols, name)?;
         cells += u128::from(count);
     }
     Ok(cells)
 }
 
 // The number of dimensions of the adjustable dummy arguments of a unit.
-fn adjustable_dimensions_of_dummies(
-    alloc: Global,
-    symbols: &Symbols,
-    constants: &Constants,
-) -> Result<u128, AllocError>
-    requires { value_among constants.now ≡ constant_value symbols.now }
+fn adjustable_dimensions_of_dummies(alloc: Global, symbols: &Symbols) -> Result<u128, AllocError>
     ensures counted { IfOk result (λ count. count ≡ variables.adjustable_dimensions_of_all symbols.now (dummies_of symbols.now)) }
     ensures bounded { IfOk result (λ count. count < 2 ^ 126) }
 {
     let mut count = 0;
     for dummy in symbols.dummies() {
-        let dimensions = adjustable_dimensions(alloc, symbols, constants, &dummy.name)?;
+        let dimensions = adjustable_dimensions(alloc, symbols, &dummy.name)?;
         count += dimensions as u128;
     }
     Ok(count)
@@ -70,9 +57,8 @@ fn do_statements(statements: &[Statement]) -> usize
 fn frame_cells(alloc: Global, symbols: &Symbols) -> Result<u128, AllocError>
     ensures { IfOk result (λ cells. cells ≡ variables.frame_cells symbols.now) }
 {
-    let constants = constants(alloc, symbols)?;
-    let locals = cells_of_names(alloc, symbols, &constants, symbols.locals())?;
-    let dimensions = adjustable_dimensions_of_dummies(alloc, symbols, &constants)?;
+    let locals = cells_of_names(alloc, symbols, symbols.locals())?;
+    let dimensions = adjustable_dimensions_of_dummies(alloc, symbols)?;
     let dummies = symbols.dummies().len() as u128;
     let loops = do_statements(symbols.statements()) as u128;
     Ok(1 + (2 * dummies + (locals + (2 * loops + 2 * dimensions))))

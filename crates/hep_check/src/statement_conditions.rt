@@ -1,11 +1,9 @@
 //! Tests of a statement for violations of the conditions other than 301, 302 and 310.
-ghost use Rattle.std.specs.Prelude.{◌≡◌, ◌&&◌, ◌++◌, IfOk, OnOk};
+ghost use Rattle.std.specs.Prelude.{◌≡◌, ◌&&◌, ◌++◌, OnOk};
 ghost use Rattle.std.specs.Option.{is_none};
 ghost use Rattle.hep_source.specs.Units.{subroutine_name};
 ghost use Rattle.hep_conditions.specs.Violations as violations;
 ghost use Rattle.hep_conditions.specs.Words.{is_resume};
-ghost use Rattle.hep_check.specs.Culprits as culprits;
-ghost use Rattle.hep_check.specs.AllViolations as words;
 
 use hep_conditions::Violation;
 use hep_source::{Form, Statement};

@@ -5,14 +5,13 @@ ghost use Rattle.hep_check.specs.FirstFound.{first_found};
 ghost use Rattle.hep_check.specs.Diagnostics.{conditions_on};
 
 use crate::resume::resume_violation;
+use crate::violation_lines::UnitLines;
 use hep_conditions::Violation;
 use hep_conditions::reported::first_of_two;
-use hep_control::{Labels, jump_violation, label_violation, structure_violation};
 use hep_names::{
     ProgramSymbols, Symbols, count_violation, type_missing_violation, unknown_name_violation,
 };
-use hep_storage::data_violation;
-use hep_types::{argument_violation, loop_variables, type_violation};
+use hep_types::{argument_violation, type_violation};
 use std::alloc::{AllocError, Global};
 
 // The first of the violations of several conditions.
@@ -38,18 +37,17 @@ pub(crate) fn violations_found(
 ) -> Result<[Option<Violation>; 10], AllocError>
     ensures { IfOk result (λ found. found ≡ map first_of (conditions_on program.now symbols.now)) }
 {
-    let labels = Labels::new(alloc, symbols.statements())?;
-    let loop_variables = loop_variables(alloc, program, symbols)?;
+    let lines = UnitLines::new(alloc, program, symbols)?;
     Ok([
         type_missing_violation(alloc, program, symbols)?,
         type_violation(alloc, program, symbols)?,
         count_violation(alloc, program, symbols)?,
         argument_violation(alloc, program, symbols)?,
-        label_violation(alloc, &labels)?,
-        structure_violation(alloc, &labels, &loop_variables)?,
-        jump_violation(alloc, &labels)?,
+        lines.labels.first(306),
+        lines.structure.first(307),
+        lines.jumps.first(308),
         unknown_name_violation(alloc, program, symbols)?,
-        data_violation(alloc, symbols)?,
+        lines.values.first(311),
         resume_violation(symbols.statements()),
     ])
 }

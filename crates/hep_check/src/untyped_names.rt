@@ -8,9 +8,8 @@ use crate::unit_context::UnitContext;
 use hep_conditions::Violation;
 use hep_conditions::reported::violation_by;
 use hep_names::untyped_names::is_untyped;
-use hep_names::{ProgramSymbols, Symbols};
+use hep_names::{NameSet, ProgramSymbols, Symbols};
 use hep_source::Occurrence;
-use hep_values::NameSet;
 use std::alloc::AllocError;
 
 /// One of these has no type.

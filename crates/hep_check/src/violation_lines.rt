@@ -1,12 +1,14 @@
 //! The lines of violations that are about several statements or units: 305 to 309 and 311.
-ghost use Rattle.std.specs.Prelude.{◌≡◌, ◌||◌, ℕ, nat_eq, IfOk, OnOk};
+ghost use Rattle.std.specs.Prelude.{◌≡◌, ◌||◌, ℕ, Some, nat_eq, IfOk, OnOk};
 ghost use Rattle.std.specs.List.{list_any};
 ghost use Rattle.indexmap.specs.IndexSet.{contains};
-ghost use Rattle.hep_conditions.specs.Words.{common_violations, data_violations, function_types, jump_violations, label_violations, name_violations, structure_violations};
+ghost use Rattle.hep_conditions.specs.Words.{common_violations, data_violations, function_types, jump_violations, label_violations, least_line_of, name_violations, reported, structure_violations};
 ghost use Rattle.hep_types.specs.declared.all_ambiguities.Ambiguity.{Ambiguity as PureAmbiguity};
 ghost use Rattle.hep_check.specs.ViolationLines.{is_in};
 ghost use Rattle.hep_check.specs.AllViolations.{has_line};
 
+use hep_conditions::Violation;
+use hep_conditions::reported::{lesser, reported};
 use hep_control::{Labels, jump_lines, label_lines, structure_lines};
 use hep_names::{ProgramSymbols, Symbols};
 use hep_storage::{common_lines, data_lines};
@@ -62,6 +64,17 @@ impl LineSet {
         ensures { result ≡ is_in self.now line }
     {
         self.lines.contains(&line)
+    }
+
+    /// The violation of the condition with this number at the least line of the set.
+    pub(crate) fn first(&self, number: u16) -> Option<Violation>
+        ensures { result ≡ reported number (least_line_of (λ (line : ℕ). Some line) self.now.lines.keys) }
+    {
+        let mut least = None;
+        for line in self.lines.as_slice() {
+            least = lesser(least, Some(*line));
+        }
+        reported(number, least)
     }
 }
 

@@ -1,7 +1,7 @@
 -- What stands from a statement on, by one pass from the end of a unit, is where one goes from the statement before.
 use Rattle.std.proofs.Common.{◌≡◌, ℕ, zero, suc, ◌+◌, ◌<◌, Bool, true, false, true≢false, List, [], ◌∷◌, ◌++◌, map, reverse, length, drop, get_or, slice_get, refl, ◌∙◌, sym, ap, subst, arith, if◌then◌else◌}
 use Rattle.std.proofs.Math.Seq.{drop-cons}
-use Rattle.std.proofs.lemmas.List.{drop_all, reverse-append, length-drop}
+use Rattle.std.proofs.lemmas.List.{reverse-append, length-drop}
 use Rattle.std.specs.Option.{unwrap_or}
 use Rattle.hep_machine.specs.Words.{Tree, no_statement, Form, Statement, is_executable, passed_over, executable_from, statement_at, Role, opens, alternative, otherwise, closes, other, role_of_form, role_after, role_of, to_end_if, before_end_if, to_alternative, before_alternative, end_if_after, past_block, following, past_else, alternative_of}
 use Rattle.hep_source.specs.declared.statement.Form.TheVariants as form
@@ -162,14 +162,6 @@ module _ (unit : List Statement) where
   pub record Read (past k : ℕ) (all : List code.Successors) (ahead : Continuation) : Type 0 where
     pub ahead_is : ahead ≡ ahead_of past (drop k unit) k
     pub all_are : map successors_seen (reverse all) ≡ successors_from unit k (drop k unit)
-
-  pub none-read : (past : ℕ) (ahead : Continuation) → past ≡ length unit → ahead ≡ at_end past → Read past past [] ahead
-  none-read past ahead e h =
-      let none : drop past unit ≡ [] = drop_all past unit (omega (arith, e)) in
-      record {
-        ahead_is = h ∙ ap (λ ss. ahead_of past ss past) (sym none);
-        all_are = ap (successors_from unit past) (sym none);
-      }
 
   pub one-read : (past k : ℕ) (s : Statement) (x : code.Successors) (all : List code.Successors) (ahead new : Continuation) → past ≡ length unit → k < length unit → s ≡ get_or unit k s
       → Read past (suc k) all ahead → successors_seen x ≡ successors_before ahead → new ≡ with_statement ahead k s → Read past k (all ++ x ∷ []) new

@@ -1,5 +1,5 @@
 -- One pass over a unit has the innermost DO that ends at each statement: around each one is that which was found before it.
-use Rattle.std.proofs.Common.{◌≡◌, ◌≢◌, ℕ, zero, suc, ◌+◌, ◌-◌, ◌<◌, ◌≤◌, Bool, true, false, true≢false, ◌&&◌, nat_eq, nat_lt, if◌then◌else◌, List, [], ◌∷◌, ◌++◌, ◌⊎◌, inl, inr, length, take, replicate, get_or, slice_get, slice_set, Option, Some, None, refl, ◌∙◌, sym, ap, arith, IfSome, eqb-true, ltb-false, ltb-true, ne_eqb}
+use Rattle.std.proofs.Common.{◌≡◌, ◌≢◌, ℕ, zero, suc, ◌+◌, ◌-◌, ◌<◌, ◌≤◌, Bool, true, false, true≢false, ◌&&◌, nat_eq, nat_lt, if◌then◌else◌, List, [], ◌∷◌, ◌++◌, ◌⊎◌, inl, inr, length, take, get_or, slice_get, slice_set, Option, Some, None, refl, ◌∙◌, sym, ap, arith, IfSome, eqb-true, ltb-false, ltb-true, ne_eqb}
 use Rattle.std.specs.Option.{option_map, unwrap_or}
 use Rattle.std.proofs.lemmas.Bool.Decides.{nat_tests}
 use Rattle.std.proofs.lemmas.List.{get_or_default, length-append, length-take, take-take, take_all, take_more}
@@ -7,7 +7,7 @@ use Rattle.std.proofs.lemmas.Option.{unwrap_or-slice_get}
 use Rattle.hep_machine.specs.Words.{no_statement, Tree, statement_at, Form, Statement, index_labelled, index_of_label, terminal_by_form, is_ended_at, loops_among, loops_ending_at, loops_around}
 use Rattle.hep_machine.proofs.Others.{front_kept}
 use Rattle.hep_source.specs.declared.statement.Form.TheVariants as form
-use Rattle.hep_control.specs.Loops.{innermost_loop, outer_loop, terminal_at, with_loop, loop_met, innermost_among}
+use Rattle.hep_control.specs.Loops.{outer_loop, terminal_at, with_loop, loop_met, innermost_among}
 use Rattle.hep_control.proofs.Labelled.{index_labelled-below}
 use Rattle.hep_source.proofs.Tests.{and-false, at-last, number-self}
 
@@ -45,12 +45,6 @@ set-other (z ∷ zs) (suc i) (suc j) x ne = set-other zs i j x (λ e. ne (ap suc
 
 abbrev no_loop : Option ℕ
 no_loop = None
-
-none-at : (n k : ℕ) → k ≤ n → slice_get (replicate n no_loop ++ no_loop ∷ []) k ≡ Some no_loop
-none-at zero zero l = refl
-none-at zero (suc k) l = absurd (omega (arith, l))
-none-at (suc n) zero l = refl
-none-at (suc n) (suc k) l = none-at n k (omega (arith, l))
 
 -- ---- tests of numbers
 
@@ -203,14 +197,6 @@ module _ (unit : List Statement) where
     pub long : length outer ≡ m
     pub outer_are : (d : ℕ) → d < m → slice_get outer d ≡ Some (outer_loop unit d)
 
-  pub none-passed : (innermost : List (Option ℕ)) → innermost ≡ replicate (length unit) no_loop ++ no_loop ∷ [] → Passed 0 innermost []
-  none-passed innermost e =
-      record {
-        found_are = λ k l. ap (λ ls. slice_get ls k) e ∙ none-at (length unit) k l;
-        long = refl;
-        outer_are = λ d l. absurd (omega (arith, l));
-      }
-
   pub one-passed : (m : ℕ) (s : Statement) (innermost new outer : List (Option ℕ)) (met : Option ℕ) → m < length unit → s ≡ get_or unit m s
       → new ≡ with_loop innermost m (terminal_at unit s) → met ≡ loop_met innermost m (terminal_at unit s) → Passed m innermost outer → Passed (m + 1) new (outer ++ met ∷ [])
   one-passed m s innermost new outer met l is ne me h =
@@ -227,6 +213,3 @@ module _ (unit : List Statement) where
     where
       below_or_last : (d : ℕ) → d < m + 1 → (d < m) ⊎ (d ≡ m)
       below_or_last d b = grind arith
-
-  pub all-innermost : (innermost outer : List (Option ℕ)) (k : ℕ) → Passed (length unit) innermost outer → k ≤ length unit → slice_get innermost k ≡ Some (innermost_loop unit k)
-  all-innermost innermost outer k h l = h.found_are k l ∙ ap (λ ls. Some (slice_get ls 0)) (found-all unit k)

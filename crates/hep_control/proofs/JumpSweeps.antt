@@ -5,7 +5,7 @@ use Rattle.std.specs.List.{flat_map, list_any}
 use Rattle.std.proofs.lemmas.List.Folds.{list_any-append}
 use Rattle.hep_machine.specs.Words.{Statement, statement_at, role_of, index_labelled}
 use Rattle.hep_conditions.specs.Nesting as nesting
-use Rattle.hep_conditions.specs.Words.{regions_before, regions_to_last, block_regions, range_region, ranges_of, block_ifs_of, regions_of, IndexedStatement, indexed_statements, enters, is_division, is_wrong_jump, jump_to, jump_violations, targets_of_jump, Violations, first_of, reported, least_line, line_when, least_line_of}
+use Rattle.hep_conditions.specs.Words.{regions_before, regions_to_last, block_regions, range_region, ranges_of, block_ifs_of, regions_of, IndexedStatement, indexed_statements, enters, is_division, is_wrong_jump, jump_to, jump_violations, targets_of_jump, Violations, least_line, line_when}
 use Rattle.hep_control.specs.declared.blocks.BlockIf.{BlockIf}
 use Rattle.hep_control.specs.Ranges.{block_if}
 use Rattle.hep_control.specs.Jumps.{blocks_from, blocks_in, region, Leap, leap, leap_to, leaps_at, leaps_of, value_by_start, question_by_start, value_by_end, question_by_end, line_to_division}
@@ -13,11 +13,11 @@ use Rattle.hep_control.proofs.Sets.{any-line, any-when, line_passes, or-comm, an
 use Rattle.hep_source.proofs.Tests.{or-false, or-assoc, any-flat, any-or, and-split, any-same}
 use Rattle.std.below.core.specs.declared.int.usize.TheConstants.{MAX}
 use Rattle.std.proofs.lemmas.Bool.Decides.{nat_tests}
-use Rattle.hep_conditions.proofs.Lines.{reported-append, reported-when, least_line_of-append, least_line_of-same, least_line_of-both, least_line-or, least_line-none}
+use Rattle.hep_conditions.proofs.Lines.{least_line-or}
 use Rattle.hep_control.specs.declared.region.Region.{Region}
 use Rattle.hep_control.specs.declared.region.Jump.{Jump}
-use Rattle.hep_control.specs.Sweep.{is_within, least_met, lines_asked}
-use Rattle.hep_control.proofs.Swept.{lines-asked, met-asked}
+use Rattle.hep_control.specs.Sweep.{is_within, lines_asked}
+use Rattle.hep_control.proofs.Swept.{lines-asked}
 
 -- ---- regions in another order
 
@@ -76,27 +76,9 @@ module _ (test : nesting.Region → Bool) where
 
 -- ---- jump by jump
 
-reported-flat : {A B : Type 0} (number : ℕ) (f : A → Violations) (g : A → List B) (line : B → Option ℕ)
-    → ((x : A) → first_of (f x) ≡ reported number (least_line_of line (g x))) → (xs : List A) → first_of (flat_map f xs) ≡ reported number (least_line_of line (flat_map g xs))
-reported-flat number f g line h [] = refl
-reported-flat number f g line h (x ∷ xs) =
-    reported-append number (f x) (flat_map f xs) (least_line_of line (g x)) (least_line_of line (flat_map g xs)) (h x) (reported-flat number f g line h xs)
-    ∙ ap (reported number) (sym (least_line_of-append line (g x) (flat_map g xs)))
-
 module _ (unit : List Statement) where
   abbrev pub line_wrong : Leap → Option ℕ
   line_wrong j = line_when (is_wrong_jump unit j.from j.to) j.line
-
-  reported-jump : (p : IndexedStatement) (o : Option ℕ) → first_of (jump_to unit p o) ≡ reported 308 (least_line_of line_wrong (leap_to p.index p.statement.line o))
-  reported-jump p None = refl
-  reported-jump p (Some to) = reported-when 308 p.statement.line (is_wrong_jump unit p.index to) ∙ ap (reported 308) (sym (least_line-none (line_when (is_wrong_jump unit p.index to) p.statement.line)))
-
-  pub reported-jumps : first_of (jump_violations unit) ≡ reported 308 (least_line_of line_wrong (leaps_of unit))
-  reported-jumps =
-      reported-flat 308 (λ (p : IndexedStatement). flat_map (λ l. jump_to unit p (index_labelled unit l)) (targets_of_jump p.statement.form)) (leaps_at unit) line_wrong
-      (λ (p : IndexedStatement). reported-flat 308 (λ l. jump_to unit p (index_labelled unit l)) (λ l. leap_to p.index p.statement.line (index_labelled unit l)) line_wrong
-      (λ l. reported-jump p (index_labelled unit l)) (targets_of_jump p.statement.form))
-      (indexed_statements unit)
 
   -- the same, as a test of a line sees it
   module _ (test : ℕ → Bool) where
@@ -150,10 +132,6 @@ any-enters j rs =
     any-map (enters j.from j.to) region rs
     ∙ (any-same (λ r. enters j.from j.to (region r)) (λ r. enters_late j r || enters_early j r) (one-enters j) rs ∙ any-or (enters_late j) (enters_early j) rs)
 
-pub least_line_of-map : {A B : Type 0} (line : B → Option ℕ) (f : A → B) (xs : List A) → least_line_of line (map f xs) ≡ least_line_of (λ x. line (f x)) xs
-least_line_of-map line f [] = refl
-least_line_of-map line f (x ∷ xs) = ap (least_line (line (f x))) (least_line_of-map line f xs)
-
 module _ (unit : List Statement) (rs : List Region) (js : List Jump)
     (regions : (test : nesting.Region → Bool) → list_any test (map region rs) ≡ list_any test (regions_of unit))
     (jumps : map leap js ≡ leaps_of unit) where
@@ -168,27 +146,6 @@ module _ (unit : List Statement) (rs : List Region) (js : List Jump)
       ap (λ b. line_when (b || is_division (role_of (statement_at unit j.to))) j.line) (sym (regions (enters j.from j.to)) ∙ any-enters j rs)
       ∙ (sym (least_line-or j.line (list_any (enters_late j) rs || list_any (enters_early j) rs) (is_division (role_of (statement_at unit j.to))))
       ∙ ap (λ o. least_line o (line_to_division unit j)) (sym (least_line-or j.line (list_any (enters_late j) rs) (list_any (enters_early j) rs))))
-
-  late-met : least_met (map value_by_start rs ++ map question_by_start js) ≡ least_line_of late js
-  late-met = met-asked (λ (r : Region). r.after) (λ (r : Region). r.before) (λ (j : Jump). j.to) (λ (j : Jump). suc j.to) (λ (j : Jump). suc j.from) (λ (j : Jump). j.line) rs js
-
-  early-met : least_met (map value_by_end rs ++ map question_by_end js) ≡ least_line_of early js
-  early-met = met-asked (λ (r : Region). MAX - r.before) (λ (r : Region). r.after) (λ (j : Jump). MAX - j.to) (λ (j : Jump). j.from) (λ (j : Jump). j.to) (λ (j : Jump). j.line) rs js
-
-  -- three parts
-  pub reported-parts : first_of (jump_violations unit)
-      ≡ reported 308 (least_line (least_line (least_met (map value_by_start rs ++ map question_by_start js)) (least_met (map value_by_end rs ++ map question_by_end js)))
-      (least_line_of (line_to_division unit) js))
-  reported-parts =
-      reported-jumps unit
-      ∙ ap (reported 308)
-      (ap (least_line_of (line_wrong unit)) (sym jumps)
-      ∙ (least_line_of-map (line_wrong unit) leap js
-      ∙ (least_line_of-same (λ j. line_wrong unit (leap j)) (λ j. least_line (least_line (late j) (early j)) (line_to_division unit j)) one js
-      ∙ (least_line_of-both (λ j. least_line (late j) (early j)) (line_to_division unit) js
-      ∙ ap (λ o. least_line o (least_line_of (line_to_division unit) js))
-      (least_line_of-both late early js
-      ∙ (ap (λ o. least_line o (least_line_of early js)) (sym late-met) ∙ ap (least_line (least_met (map value_by_start rs ++ map question_by_start js))) (sym early-met)))))))
 
   -- ---- all lines
 

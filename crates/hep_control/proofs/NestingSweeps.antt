@@ -5,10 +5,10 @@ use Rattle.std.proofs.lemmas.Bool.Decides.{nat_tests}
 use Rattle.hep_machine.specs.Words.{Name, Form, Statement, name_eq, same_name, line_at, index_labelled}
 use Rattle.hep_source.specs.declared.statement.Form.TheVariants as form
 use Rattle.hep_source.proofs.NameTests.{equal_names, name_eq-is}
-use Rattle.hep_conditions.specs.Words.{indexed_from, is_unconditional, range_to, range_by, ranges_of, shares_variable, block_ifs_of, ranges_cross, range_pair, leaves_range, leaves_block, crossing, nesting_violations, is_between, ends_after, end_between, least_line, line_when, least_line_of, reported, first_of, when, at_line}
-use Rattle.hep_conditions.proofs.Lines.{least_line-assoc, reported-append, reported-when, reported-of, least_line-or, least_line_of-same, least_line_of-both, least_line_of-any, least_line_of-turned}
+use Rattle.hep_conditions.specs.Words.{indexed_from, is_unconditional, range_to, range_by, ranges_of, shares_variable, block_ifs_of, ranges_cross, range_pair, leaves_range, leaves_block, crossing, nesting_violations, is_between, ends_after, end_between, least_line, line_when, least_line_of, when, at_line}
+use Rattle.hep_conditions.proofs.Lines.{least_line-or, least_line_of-any}
 use Rattle.hep_control.specs.Ranges.{range_at, block_if, do_range}
-use Rattle.hep_control.specs.Nesting.{later, with_range, reaches, least_shared, lines_shared, value_of_range, question_of_range, question_of_block, BlockEnd, ends_from, ends_in, value_of_end, values_in, question_in_range}
+use Rattle.hep_control.specs.Nesting.{later, with_range, reaches, lines_shared, value_of_range, question_of_range, question_of_block, BlockEnd, ends_from, ends_in, value_of_end, values_in, question_in_range}
 use Rattle.hep_source.proofs.Tests.{and-false, and-true, or-assoc, or-false, or-turned, any-or, and-assoc, any-flat, and-split, any-same, any-and, any-turned}
 use Rattle.std.specs.Option.{unwrap_or}
 use Rattle.std.proofs.lemmas.List.{map-append}
@@ -16,10 +16,9 @@ use Rattle.std.proofs.lemmas.List.Folds.{list_any-append}
 use Rattle.hep_conditions.specs.Nesting as nesting
 use Rattle.hep_control.specs.declared.blocks.BlockIf.{BlockIf}
 use Rattle.hep_control.specs.declared.region.DoRange.{DoRange}
-use Rattle.hep_control.specs.Sweep.{is_within, least_met, lines_asked}
-use Rattle.hep_control.proofs.Sets.{any-line, any-map, any-when, least_line_of-reverse, line_passes, any-reverse}
-use Rattle.hep_control.proofs.JumpSweeps.{least_line_of-map}
-use Rattle.hep_control.proofs.Swept.{lines-asked, met-asked}
+use Rattle.hep_control.specs.Sweep.{is_within, lines_asked}
+use Rattle.hep_control.proofs.Sets.{any-line, any-map, any-when, line_passes, any-reverse}
+use Rattle.hep_control.proofs.Swept.{lines-asked}
 
 -- ---- the pass
 
@@ -31,29 +30,6 @@ met-range last r x = ap (λ b. cond b (Some (later (last r.variable) r.terminal)
     by : (b : Bool) → cond b (Some (later (last r.variable) r.terminal)) (last x) ≡ (if b then Some (later (last r.variable) r.terminal) else last x)
     by true = refl
     by false = refl
-
-with_range-same : (f g : Name → Option ℕ) → ((x : Name) → f x ≡ g x) → (r : nesting.DoRange) (x : Name) → with_range f r x ≡ with_range g r x
-with_range-same f g h r x = by (same_name r.variable x)
-  where
-    by : (b : Bool) → (if b then Some (later (f r.variable) r.terminal) else f x) ≡ (if b then Some (later (g r.variable) r.terminal) else g x)
-    by true = ap (λ o. Some (later o r.terminal)) (h r.variable)
-    by false = h x
-
-module _ (unit : List Statement) where
-  least_shared-same : (f g : Name → Option ℕ) → ((x : Name) → f x ≡ g x) → (rs : List nesting.DoRange) → least_shared unit f rs ≡ least_shared unit g rs
-  least_shared-same f g h [] = refl
-  least_shared-same f g h (r ∷ rs) =
-      ap (λ o. least_line (line_when (reaches o r.start) (line_at unit r.start)) (least_shared unit (with_range f r) rs)) (h r.variable)
-      ∙ ap (least_line (line_when (reaches (g r.variable) r.start) (line_at unit r.start)))
-      (least_shared-same (with_range f r) (with_range g r) (with_range-same f g h r) rs)
-
-  -- one range more
-  pub shared-next : (best : Option ℕ) (last new : Name → Option ℕ) (r : nesting.DoRange) (rs : List nesting.DoRange) → ((x : Name) → new x ≡ with_range last r x)
-      → least_line (least_line best (line_when (reaches (last r.variable) r.start) (line_at unit r.start))) (least_shared unit new rs)
-      ≡ least_line best (least_shared unit last (r ∷ rs))
-  shared-next best last new r rs h =
-      ap (least_line (least_line best (line_when (reaches (last r.variable) r.start) (line_at unit r.start)))) (least_shared-same new (with_range last r) h rs)
-      ∙ least_line-assoc best (line_when (reaches (last r.variable) r.start) (line_at unit r.start)) (least_shared unit (with_range last r) rs)
 
 -- ---- ranges in order
 
@@ -148,17 +124,6 @@ shares-here met ahead all r s a h =
     ∙ (sym (or-false (list_any (λ x. shares_variable x r) met))
     ∙ (ap (λ t. list_any (λ x. shares_variable x r) met || t) (sym (after-shares r r.start (r ∷ ahead) (omega arith) (omega arith, a))) ∙ sym (h (λ x. shares_variable x r)))))
 
-module _ (unit : List Statement) (all : List nesting.DoRange) where
-  abbrev in_another : nesting.DoRange → Option ℕ
-  in_another b = line_when (list_any (λ a. shares_variable a b) all) (line_at unit b.start)
-
-  shared-pass : (n : ℕ) (met ahead : List nesting.DoRange) → Started n met → Rising n ahead → Together met ahead all → least_shared unit (latest met) ahead ≡ least_line_of in_another ahead
-  shared-pass n met [] s a h = refl
-  shared-pass n met (r ∷ ahead) s a h =
-      ap (λ b. least_line (line_when b (line_at unit r.start)) (least_shared unit (latest (r ∷ met)) ahead)) (shares-here met ahead all r (started-later n r.start met a.0 s) a.1 h)
-      ∙ ap (least_line (in_another r))
-      (shared-pass (suc r.start) (r ∷ met) ahead (omega arith, started-later n (suc r.start) met (omega (arith, a.0)) s) a.1 (together-next met ahead all r h))
-
 -- the lines of all of them
 module _ (unit : List Statement) (all : List nesting.DoRange) (test : ℕ → Bool) where
   abbrev passes_in_another : nesting.DoRange → Bool
@@ -182,10 +147,6 @@ lines-shared-next unit last new found next whole r rs xs h d k n =
     (λ i. n i ++ lines_shared unit (λ x. h x i) rs)
     ∙ (append_assoc found here (lines_shared unit (with_range last r) rs) ∙ (ap (λ ys. found ++ lines_shared unit last ys) (sym d) ∙ k))
 
-pub least-shared : (unit : List Statement)
-    → least_shared unit (λ x. None) (ranges_of unit) ≡ least_line_of (λ b. line_when (list_any (λ a. shares_variable a b) (ranges_of unit)) (line_at unit b.start)) (ranges_of unit)
-least-shared unit = shared-pass unit (ranges_of unit) 0 [] (ranges_of unit) tt (rising unit) (λ test. refl)
-
 -- ---- what isn't nested
 
 module _ (unit : List Statement) where
@@ -198,9 +159,6 @@ module _ (unit : List Statement) where
   abbrev line : nesting.DoRange → ℕ
   line r = line_at unit r.start
 
-  abbrev block_line : nesting.BlockIf → ℕ
-  block_line b = line_at unit b.start
-
   -- the later of two ranges that cross, or that share a variable
   abbrev pub crossed : nesting.DoRange → Option ℕ
   crossed b = line_when (list_any (λ a. ranges_cross a b) rs) (line b)
@@ -208,69 +166,14 @@ module _ (unit : List Statement) where
   abbrev pub shared : nesting.DoRange → Option ℕ
   shared b = line_when (list_any (λ a. shares_variable a b) rs) (line b)
 
-  -- a block IF that leaves a range, and a range that leaves a block
-  abbrev pub left_by_block : nesting.BlockIf → Option ℕ
-  left_by_block b = line_when (list_any (λ a. leaves_range a b) rs) (block_line b)
-
-  abbrev pub left_by_range : nesting.DoRange → Option ℕ
-  left_by_range a = line_when (list_any (leaves_block a) bs) (line a)
-
   abbrev pairs : nesting.DoRange → Option ℕ
   pairs a = least_line_of (λ b. line_when (ranges_cross a b || shares_variable a b) (line b)) rs
-
-  abbrev out_of_range : nesting.DoRange → Option ℕ
-  out_of_range a = least_line_of (λ b. line_when (leaves_range a b) (block_line b)) bs
-
-  abbrev out_of_block : nesting.DoRange → Option ℕ
-  out_of_block a = least_line_of (λ b. line_when (leaves_block a b) (line a)) bs
-
-  reported-pair : (a b : nesting.DoRange) → first_of (range_pair unit a b) ≡ reported 307 (line_when (ranges_cross a b || shares_variable a b) (line b))
-  reported-pair a b = reported-when 307 (line b) (ranges_cross a b || shares_variable a b)
-
-  reported-out : (a : nesting.DoRange) (b : nesting.BlockIf)
-      → first_of (crossing unit a b) ≡ reported 307 (least_line (line_when (leaves_range a b) (block_line b)) (line_when (leaves_block a b) (line a)))
-  reported-out a b =
-      reported-append 307 (when (leaves_range a b) (at_line 307 (block_line b))) (when (leaves_block a b) (at_line 307 (line a)))
-      (line_when (leaves_range a b) (block_line b)) (line_when (leaves_block a b) (line a))
-      (reported-when 307 (block_line b) (leaves_range a b)) (reported-when 307 (line a) (leaves_block a b))
-
-  reported-range : (a : nesting.DoRange) → first_of (flat_map (range_pair unit a) rs ++ flat_map (crossing unit a) bs) ≡ reported 307 (least_line (pairs a) (least_line (out_of_range a) (out_of_block a)))
-  reported-range a =
-      reported-append 307 (flat_map (range_pair unit a) rs) (flat_map (crossing unit a) bs) (pairs a) (least_line (out_of_range a) (out_of_block a))
-      (reported-of 307 (range_pair unit a) (λ b. line_when (ranges_cross a b || shares_variable a b) (line b)) (reported-pair a) rs)
-      (reported-of 307 (crossing unit a) (λ b. least_line (line_when (leaves_range a b) (block_line b)) (line_when (leaves_block a b) (line a))) (reported-out a) bs
-      ∙ ap (reported 307) (least_line_of-both (λ b. line_when (leaves_range a b) (block_line b)) (λ b. line_when (leaves_block a b) (line a)) bs))
 
   two : (b : nesting.DoRange) → least_line_of (λ a. line_when (ranges_cross a b || shares_variable a b) (line b)) rs ≡ least_line (crossed b) (shared b)
   two b =
       least_line_of-any (λ a. ranges_cross a b || shares_variable a b) (line b) rs
       ∙ (ap (λ t. line_when t (line b)) (any-or (λ a. ranges_cross a b) (λ a. shares_variable a b) rs)
       ∙ sym (least_line-or (line b) (list_any (λ a. ranges_cross a b) rs) (list_any (λ a. shares_variable a b) rs)))
-
-  all_pairs : least_line_of pairs rs ≡ least_line (least_line_of crossed rs) (least_line_of shared rs)
-  all_pairs =
-      least_line_of-turned (λ a b. line_when (ranges_cross a b || shares_variable a b) (line b)) rs rs
-      ∙ (least_line_of-same (λ b. least_line_of (λ a. line_when (ranges_cross a b || shares_variable a b) (line b)) rs) (λ b. least_line (crossed b) (shared b)) two rs
-      ∙ least_line_of-both crossed shared rs)
-
-  all_out_of_range : least_line_of out_of_range rs ≡ least_line_of left_by_block bs
-  all_out_of_range =
-      least_line_of-turned (λ a b. line_when (leaves_range a b) (block_line b)) rs bs
-      ∙ least_line_of-same (λ b. least_line_of (λ a. line_when (leaves_range a b) (block_line b)) rs) left_by_block (λ b. least_line_of-any (λ a. leaves_range a b) (block_line b) rs) bs
-
-  all_out_of_block : least_line_of out_of_block rs ≡ least_line_of left_by_range rs
-  all_out_of_block = least_line_of-same out_of_block left_by_range (λ a. least_line_of-any (leaves_block a) (line a) bs) rs
-
-  pub reported-nesting : first_of (nesting_violations unit)
-      ≡ reported 307 (least_line (least_line (least_line_of crossed rs) (least_line_of shared rs)) (least_line (least_line_of left_by_block bs) (least_line_of left_by_range rs)))
-  reported-nesting =
-      reported-of 307 (λ (a : nesting.DoRange). flat_map (range_pair unit a) rs ++ flat_map (crossing unit a) bs) (λ a. least_line (pairs a) (least_line (out_of_range a) (out_of_block a))) reported-range rs
-      ∙ ap (reported 307)
-      (least_line_of-both pairs (λ a. least_line (out_of_range a) (out_of_block a)) rs
-      ∙ (ap (least_line (least_line_of pairs rs)) (least_line_of-both out_of_range out_of_block rs)
-      ∙ (ap (λ o. least_line o (least_line (least_line_of out_of_range rs) (least_line_of out_of_block rs))) all_pairs
-      ∙ (ap (λ o. least_line (least_line (least_line_of crossed rs) (least_line_of shared rs)) (least_line o (least_line_of out_of_block rs))) all_out_of_range
-      ∙ ap (λ o. least_line (least_line (least_line_of crossed rs) (least_line_of shared rs)) (least_line (least_line_of left_by_block bs) o)) all_out_of_block))))
 
 -- ---- what isn't nested, as a test of a line sees it
 
@@ -403,52 +306,8 @@ module _ (unit : List Statement) (rs : List DoRange) (cs : List BlockIf) (ranges
   any-ranges : (test : nesting.DoRange → Bool) → list_any (λ r. test (do_range r)) rs ≡ list_any test (ranges_of unit)
   any-ranges test = sym (any-map test do_range rs) ∙ ap (list_any test) ranges
 
-  least-ranges : (line : nesting.DoRange → Option ℕ) → least_line_of (λ r. line (do_range r)) rs ≡ least_line_of line (ranges_of unit)
-  least-ranges line = sym (least_line_of-map line do_range rs) ∙ ap (least_line_of line) ranges
-
   any-blocks : (test : nesting.BlockIf → Bool) → list_any (λ b. test (block_if b)) cs ≡ list_any test (block_ifs_of unit).closed
   any-blocks test = sym (any-map test block_if cs) ∙ (sym (any-reverse test (map block_if cs)) ∙ ap (list_any test) closed)
-
-  least-blocks : (line : nesting.BlockIf → Option ℕ) → least_line_of (λ b. line (block_if b)) cs ≡ least_line_of line (block_ifs_of unit).closed
-  least-blocks line = sym (least_line_of-map line block_if cs) ∙ (sym (least_line_of-reverse line (map block_if cs)) ∙ ap (least_line_of line) closed)
-
-  met-crossed : least_met (map value_of_range rs ++ map (question_of_range unit) rs) ≡ least_line_of (crossed unit) (ranges_of unit)
-  met-crossed =
-      met-asked (λ (r : DoRange). r.start) (λ (r : DoRange). r.terminal) (λ (r : DoRange). r.start) (λ (r : DoRange). r.start) (λ (r : DoRange). r.terminal) (λ (r : DoRange). line_at unit r.start) rs rs
-      ∙ (least_line_of-same (λ (b : DoRange). line_when (list_any (λ (a : DoRange). ranges_cross (do_range a) (do_range b)) rs) (line_at unit b.start)) (λ b. crossed unit (do_range b))
-      (λ b. ap (λ t. line_when t (line_at unit b.start)) (any-ranges (λ a. ranges_cross a (do_range b)))) rs
-      ∙ least-ranges (crossed unit))
-
-  met-left_by_block : least_met (map value_of_range rs ++ map (question_of_block unit) cs) ≡ least_line_of (left_by_block unit) (block_ifs_of unit).closed
-  met-left_by_block =
-      met-asked (λ (r : DoRange). r.start) (λ (r : DoRange). r.terminal) (λ (b : BlockIf). b.start) (λ (b : BlockIf). b.start) (λ (b : BlockIf). unwrap_or b.end 0) (λ (b : BlockIf). line_at unit b.start) rs cs
-      ∙ (least_line_of-same
-      (λ (b : BlockIf). line_when (list_any (λ (a : DoRange). nat_lt a.start b.start && (nat_le b.start a.terminal && nat_lt a.terminal (unwrap_or b.end 0))) rs) (line_at unit b.start))
-      (λ b. left_by_block unit (block_if b))
-      (λ b. ap (λ t. line_when t (line_at unit b.start))
-      (any-same (λ (a : DoRange). nat_lt a.start b.start && (nat_le b.start a.terminal && nat_lt a.terminal (unwrap_or b.end 0))) (λ a. leaves_range (do_range a) (block_if b)) (λ a. one-leaves_range a b) rs
-      ∙ any-ranges (λ a. leaves_range a (block_if b)))) cs
-      ∙ least-blocks (left_by_block unit))
-
-  met-left_by_range : least_met (flat_map values_in cs ++ map (question_in_range unit) rs) ≡ least_line_of (left_by_range unit) (ranges_of unit)
-  met-left_by_range =
-      ap (λ es. least_met (es ++ map (question_in_range unit) rs)) (values_in-all cs)
-      ∙ (met-asked (λ (e : BlockEnd). e.start) (λ (e : BlockEnd). e.end) (λ (r : DoRange). r.start) (λ (r : DoRange). suc r.start) (λ (r : DoRange). suc r.terminal) (λ (r : DoRange). line_at unit r.start) (flat_map ends_in cs) rs
-      ∙ (least_line_of-same (λ (r : DoRange). line_when (list_any (answers r) (flat_map ends_in cs)) (line_at unit r.start)) (λ r. left_by_range unit (do_range r))
-      (λ r. ap (λ t. line_when t (line_at unit r.start))
-      (any-flat (answers r) ends_in cs
-      ∙ (any-same (λ b. list_any (answers r) (ends_in b)) (λ b. leaves_block (do_range r) (block_if b)) (one-leaves_block r) cs
-      ∙ any-blocks (leaves_block (do_range r))))) rs
-      ∙ least-ranges (left_by_range unit)))
-
-  pub reported-crossing : (a b c d : Option ℕ) → a ≡ least_met (map value_of_range rs ++ map (question_of_range unit) rs) → b ≡ least_shared unit (λ x. None) (map do_range rs)
-      → c ≡ least_met (map value_of_range rs ++ map (question_of_block unit) cs) → d ≡ least_met (flat_map values_in cs ++ map (question_in_range unit) rs)
-      → reported 307 (least_line (least_line a b) (least_line c d)) ≡ first_of (nesting_violations unit)
-  reported-crossing a b c d ae be ce de =
-      let ab = ap (λ o. least_line o b) (ae ∙ met-crossed) ∙ ap (least_line (least_line_of (crossed unit) (ranges_of unit))) (be ∙ (ap (least_shared unit (λ x. None)) ranges ∙ least-shared unit)) in
-      let cd = ap (λ o. least_line o d) (ce ∙ met-left_by_block) ∙ ap (least_line (least_line_of (left_by_block unit) (block_ifs_of unit).closed)) (de ∙ met-left_by_range) in
-      ap (λ o. reported 307 (least_line o (least_line c d))) ab
-      ∙ (ap (λ o. reported 307 (least_line (least_line (least_line_of (crossed unit) (ranges_of unit)) (least_line_of (shared unit) (ranges_of unit))) o)) cd ∙ sym (reported-nesting unit))
 
   -- ---- all lines
 

@@ -18,7 +18,7 @@ use Rattle.hep_conditions.specs.Words.{Violations, at_line, line_when, when}
 use Rattle.hep_machine.specs.Words.{Statement}
 use Rattle.hep_conditions.specs.Words.{IndexedStatement, indexed_from, least_line, least_line_of}
 use Rattle.std.specs.List.Sorted.{IsPermutation}
-use Rattle.std.proofs.lemmas.List.Sorted.{list_any-IsPermutation, All-permutation, IsPermutation-sym, IsPermutation-reverse}
+use Rattle.std.proofs.lemmas.List.Sorted.{list_any-IsPermutation, All-permutation, IsPermutation-reverse}
 use Rattle.std.proofs.lemmas.List.Elements.{All-nil, All-cons, All-head, All-tail, All-weaker}
 use Rattle.hep_conditions.proofs.Lines.{least_line-none, least_line-assoc, least_line-comm, least_line-again}
 
@@ -119,15 +119,8 @@ module _ {A : Type 0} (line : A → Option ℕ) where
   below : (xs ys : List A) → IsPermutation xs ys → least_line (least_line_of line xs) (least_line_of line ys) ≡ least_line_of line xs
   below xs ys p = all_bound (least_line_of line xs) ys (All-permutation (Bounds (least_line_of line xs)) xs ys p (bounded xs))
 
-  pub least_line_of-permutation : (xs ys : List A) → IsPermutation xs ys → least_line_of line ys ≡ least_line_of line xs
-  least_line_of-permutation xs ys p =
-      sym (below ys xs (IsPermutation-sym xs ys p)) ∙ (least_line-comm (least_line_of line ys) (least_line_of line xs) ∙ below xs ys p)
-
 pub any-permutation : {A : Type 0} (test : A → Bool) (xs ys : List A) → IsPermutation xs ys → list_any test ys ≡ list_any test xs
 any-permutation test xs ys p = sym (list_any-IsPermutation test xs ys p)
-
-pub least_line_of-reverse : {A : Type 0} (line : A → Option ℕ) (xs : List A) → least_line_of line (reverse xs) ≡ least_line_of line xs
-least_line_of-reverse line xs = least_line_of-permutation line xs (reverse xs) (IsPermutation-reverse xs)
 
 pub any-reverse : {A : Type 0} (test : A → Bool) (xs : List A) → list_any test (reverse xs) ≡ list_any test xs
 any-reverse test xs = any-permutation test xs (reverse xs) (IsPermutation-reverse xs)

@@ -6,13 +6,11 @@ use Rattle.hep_source.proofs.Tests.{or-assoc}
 use Rattle.std.proofs.lemmas.Option.{none-some, same_Some}
 use Rattle.hep_machine.specs.Words.{Form, Statement, line_at, statement_at, index_labelled}
 use Rattle.hep_source.specs.declared.statement.Form.TheVariants as form
-use Rattle.hep_conditions.specs.Words.{IndexedStatement, BlockIf, indexed_from, indexed_statements, is_unconditional, is_wrong_terminal, holds_wrongly, terminal_violations, loop_violations, statement_violations, block_ifs_of, block_violations, nesting_violations, structure_violations, FunctionTypes, is_loop_variable, first_of, when, at_line, reported, least_line, line_when, least_line_of, loop_variables, has_loop_variable}
-use Rattle.hep_conditions.proofs.Lines.{reported-append, reported-when, reported-of, least_line-assoc}
+use Rattle.hep_conditions.specs.Words.{IndexedStatement, BlockIf, indexed_from, indexed_statements, is_unconditional, is_wrong_terminal, holds_wrongly, terminal_violations, loop_violations, statement_violations, block_ifs_of, block_violations, nesting_violations, structure_violations, FunctionTypes, is_loop_variable, when, at_line, line_when, loop_variables, has_loop_variable}
 use Rattle.hep_control.specs.declared.blocks.BlockIf as code
 use Rattle.hep_control.specs.Ranges.{block_if}
-use Rattle.hep_control.specs.Structure.{variable_at, terminal_line, loop_line, statement_line, least_statement, wrong_terminal_line, terminal_lines, loop_lines, statement_lines, lines_alone, line_of_stray, line_of_unclosed, start_line}
-use Rattle.hep_control.proofs.Sets.{Told, any-map, any-reverse, grown, least_line_of-reverse, line_passes, told-append, told-each, told-when}
-use Rattle.hep_control.proofs.JumpSweeps.{least_line_of-map}
+use Rattle.hep_control.specs.Structure.{variable_at, statement_line, wrong_terminal_line, terminal_lines, loop_lines, statement_lines, lines_alone, start_line}
+use Rattle.hep_control.proofs.Sets.{Told, any-map, any-reverse, grown, line_passes, told-append, told-each, told-when}
 
 -- what the list says of a statement
 flag-told : (f : Statement → Bool) (unit : List Statement) (k : ℕ) (s : Statement) → slice_get unit k ≡ Some s → variable_at (map f unit) k ≡ f s
@@ -24,101 +22,6 @@ module _ (functions : FunctionTypes) (unit : List Statement) where
   -- the line that a statement tells by itself
   abbrev line_by : IndexedStatement → Option ℕ
   line_by p = statement_line unit (has_loop_variable functions unit p.statement.form) p
-
-  reported-terminal : (line k : ℕ) (o : Option ℕ) → first_of (terminal_violations unit line k o) ≡ reported 307 (terminal_line unit line k o)
-  reported-terminal line k None = refl
-  reported-terminal line k (Some t) =
-      reported-append 307 (when (nat_lt t k) (at_line 307 line)) (when (is_wrong_terminal (statement_at unit t)) (at_line 307 (line_at unit t)))
-      (line_when (nat_lt t k) line) (line_when (is_wrong_terminal (statement_at unit t)) (line_at unit t))
-      (reported-when 307 line (nat_lt t k)) (reported-when 307 (line_at unit t) (is_wrong_terminal (statement_at unit t)))
-
-  reported-loop : (line k : ℕ) (f : Form) → first_of (loop_violations functions unit line k f) ≡ reported 307 (loop_line unit (has_loop_variable functions unit f) line k f)
-  reported-loop line k (form.Do c) =
-      reported-append 307 (when (not (is_loop_variable functions unit c.variable.name)) (at_line 307 line)) (terminal_violations unit line k (index_labelled unit c.terminal))
-      (line_when (not (is_loop_variable functions unit c.variable.name)) line) (terminal_line unit line k (index_labelled unit c.terminal))
-      (reported-when 307 line (not (is_loop_variable functions unit c.variable.name))) (reported-terminal line k (index_labelled unit c.terminal))
-  reported-loop line k _ = refl
-
-  reported-held : (b : Bool) (line k : ℕ) (f : Form)
-      → first_of (if b then loop_violations functions unit line k f else []) ≡ reported 307 (if b then loop_line unit (has_loop_variable functions unit f) line k f else None)
-  reported-held true line k f = reported-loop line k f
-  reported-held false line k f = refl
-
-  reported-one : (p : IndexedStatement) → first_of (statement_violations functions unit p) ≡ reported 307 (statement_line unit (has_loop_variable functions unit p.statement.form) p)
-  reported-one p =
-      reported-append 307 (when (holds_wrongly p.statement.conditions p.statement.form) (at_line 307 p.statement.line))
-      (if is_unconditional p.statement then loop_violations functions unit p.statement.line p.index p.statement.form else [])
-      (line_when (holds_wrongly p.statement.conditions p.statement.form) p.statement.line)
-      (if is_unconditional p.statement then loop_line unit (has_loop_variable functions unit p.statement.form) p.statement.line p.index p.statement.form else None)
-      (reported-when 307 p.statement.line (holds_wrongly p.statement.conditions p.statement.form))
-      (reported-held (is_unconditional p.statement) p.statement.line p.index p.statement.form)
-
-  -- the lines are told by what the list says
-  lines-told : (variables : ℕ → Bool) (k : ℕ) (ss : List Statement)
-      → ((i : ℕ) (s : Statement) → slice_get ss i ≡ Some s → variables (k + i) ≡ has_loop_variable functions unit s.form)
-      → least_line_of (λ (p : IndexedStatement). statement_line unit (variables p.index) p) (indexed_from k ss) ≡ least_line_of line_by (indexed_from k ss)
-  lines-told variables k [] h = refl
-  lines-told variables k (s ∷ ss) h =
-      let p : IndexedStatement = record { index = k; statement = s } in
-      let at_first : k + 0 ≡ k = omega arith in
-      let here : variables k ≡ has_loop_variable functions unit s.form = ap variables (sym at_first) ∙ h 0 s refl in
-      let more = lines-told variables (suc k) ss (λ i w g. ap variables (later i) ∙ h (suc i) w g) in
-      (λ j. least_line (statement_line unit (here j) p) (more j)) where
-        later : (i : ℕ) → suc k + i ≡ k + suc i
-        later i = omega arith
-
-  pub reported-statements : first_of (flat_map (statement_violations functions unit) (indexed_statements unit))
-      ≡ reported 307 (least_statement unit (loop_variables functions unit) (indexed_statements unit))
-  reported-statements =
-      reported-of 307 (statement_violations functions unit) line_by reported-one (indexed_statements unit)
-      ∙ ap (reported 307) (sym (lines-told (variable_at (loop_variables functions unit)) 0 unit told)) where
-        told : (i : ℕ) (s : Statement) → slice_get unit i ≡ Some s → variable_at (loop_variables functions unit) (0 + i) ≡ has_loop_variable functions unit s.form
-        told i s g =
-            let same : 0 + i ≡ i = omega arith in
-            ap (variable_at (loop_variables functions unit)) same ∙ flag-told (λ (w : Statement). has_loop_variable functions unit w.form) unit i s g
-
-module _ (unit : List Statement) where
-  -- one statement more
-  pub statement-next : (best : Option ℕ) (variables : List Bool) (index : ℕ) (s : Statement) (ss : List Statement)
-      → least_line (least_line best (statement_line unit (variable_at variables index) (record { index = index; statement = s }))) (least_statement unit variables (indexed_from (index + 1) ss))
-      ≡ least_line best (least_statement unit variables (indexed_from index (s ∷ ss)))
-  statement-next best variables index s ss =
-      let p : IndexedStatement = record { index = index; statement = s } in
-      least_line-assoc best (statement_line unit (variable_at variables index) p) (least_statement unit variables (indexed_from (index + 1) ss))
-      ∙ ap (λ n. least_line best (least_line (statement_line unit (variable_at variables index) p) (least_statement unit variables (indexed_from n ss)))) (omega arith)
-
-  reported-map : {A : Type 0} (line : A → ℕ) (xs : List A) → first_of (map (λ x. at_line 307 (line x)) xs) ≡ reported 307 (least_line_of (λ x. Some (line x)) xs)
-  reported-map line [] = refl
-  reported-map line (x ∷ xs) =
-      reported-append 307 (at_line 307 (line x) ∷ []) (map (λ y. at_line 307 (line y)) xs) (Some (line x)) (least_line_of (λ y. Some (line y)) xs) refl (reported-map line xs)
-
-  pub reported-blocks : first_of (block_violations unit)
-      ≡ reported 307 (least_line (least_line_of (λ k. Some (line_at unit k)) (block_ifs_of unit).stray) (least_line_of (λ (b : BlockIf). Some (line_at unit b.start)) (block_ifs_of unit).unclosed))
-  reported-blocks =
-      reported-append 307 (map (λ k. at_line 307 (line_at unit k)) (block_ifs_of unit).stray) (map (λ (b : BlockIf). at_line 307 (line_at unit b.start)) (block_ifs_of unit).unclosed)
-      (least_line_of (λ k. Some (line_at unit k)) (block_ifs_of unit).stray) (least_line_of (λ (b : BlockIf). Some (line_at unit b.start)) (block_ifs_of unit).unclosed)
-      (reported-map (λ k. line_at unit k) (block_ifs_of unit).stray) (reported-map (λ (b : BlockIf). line_at unit b.start) (block_ifs_of unit).unclosed)
-
-  pub least-unmatched : (stray : List ℕ) (unclosed : List code.BlockIf) → reverse stray ≡ (block_ifs_of unit).stray → reverse (map block_if unclosed) ≡ (block_ifs_of unit).unclosed
-      → reported 307 (least_line (least_line_of (line_of_stray unit) stray) (least_line_of (line_of_unclosed unit) unclosed)) ≡ first_of (block_violations unit)
-  least-unmatched stray unclosed s u =
-      ap (λ l. reported 307 (least_line l (least_line_of (line_of_unclosed unit) unclosed)))
-      (sym (least_line_of-reverse (line_of_stray unit) stray) ∙ ap (least_line_of (line_of_stray unit)) s)
-      ∙ (ap (λ l. reported 307 (least_line (least_line_of (line_of_stray unit) (block_ifs_of unit).stray) l))
-      (sym (least_line_of-map (λ (b : BlockIf). Some (line_at unit b.start)) block_if unclosed)
-      ∙ (sym (least_line_of-reverse (λ (b : BlockIf). Some (line_at unit b.start)) (map block_if unclosed)) ∙ ap (least_line_of (λ (b : BlockIf). Some (line_at unit b.start))) u))
-      ∙ sym reported-blocks)
-
--- the three parts of 307
-pub reported-structure : (functions : FunctionTypes) (unit : List Statement) (alone unmatched crossing : Option ℕ)
-    → alone ≡ least_statement unit (loop_variables functions unit) (indexed_statements unit)
-    → reported 307 unmatched ≡ first_of (block_violations unit) → reported 307 crossing ≡ first_of (nesting_violations unit)
-    → reported 307 (least_line alone (least_line unmatched crossing)) ≡ first_of (structure_violations functions unit)
-reported-structure functions unit alone unmatched crossing a u c =
-    sym
-    (reported-append 307 (flat_map (statement_violations functions unit) (indexed_statements unit)) (block_violations unit ++ nesting_violations unit) alone (least_line unmatched crossing)
-    (reported-statements functions unit ∙ ap (reported 307) (sym a))
-    (reported-append 307 (block_violations unit) (nesting_violations unit) unmatched crossing (sym u) (sym c)))
 
 -- ---- all lines
 

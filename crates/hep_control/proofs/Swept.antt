@@ -1,18 +1,17 @@
 -- What questions give that stand after values, in a list without order; and one pass over events in order, which gives the lines that their
 -- questions give.
-use Rattle.std.proofs.Common.{◌≡◌, ℕ, Bool, false, ◌&&◌, ◌||◌, nat_lt, List, [], ◌∷◌, ◌++◌, map, length, drop, Option, None, option_to_list, refl, ◌∙◌, ap, suc, ◌+◌, ◌*◌, ◌<◌, ◌≤◌, true, sym, arith, append_assoc, append-nil}
+use Rattle.std.proofs.Common.{◌≡◌, ℕ, Bool, false, ◌&&◌, ◌||◌, nat_lt, List, [], ◌∷◌, ◌++◌, map, length, drop, Option, option_to_list, refl, ◌∙◌, ap, suc, ◌+◌, ◌*◌, ◌<◌, ◌≤◌, true, sym, arith, append_assoc, append-nil}
 use Rattle.std.specs.List.{flat_map, list_any}
 use Rattle.std.proofs.lemmas.List.{drop_all}
 use Rattle.std.proofs.lemmas.List.Folds.{list_any-append}
 use Rattle.hep_conditions.specs.Words.{least_line, line_when, least_line_of}
-use Rattle.hep_conditions.proofs.Lines.{least_line_of-append, least_line-assoc, least_line_of-same}
 use Rattle.hep_control.specs.declared.sweep.Event.{Event}
 use Rattle.hep_control.specs.declared.sweep.Event.TheVariants.{Value, Question}
-use Rattle.hep_control.specs.Sweep.{is_within, comes_before, line_asked, lines_asked, least_met, rank, line_met, with_event, least_swept, lines_swept}
+use Rattle.hep_control.specs.Sweep.{is_within, comes_before, line_asked, lines_asked, rank, line_met, with_event, lines_swept}
 use Rattle.hep_source.proofs.Tests.{any-flat, or-false, or-turned, any-same}
 use Rattle.std.specs.List.Sorted.{IsNonDecreasingBy, IsPermutation}
 use Rattle.std.proofs.lemmas.Bool.Decides.{nat_tests}
-use Rattle.hep_control.proofs.Sets.{any-line, any-map, least_line_of-permutation, any-permutation}
+use Rattle.hep_control.proofs.Sets.{any-line, any-map, any-permutation}
 
 module _ {A B : Type 0} (vk vv : A → ℕ) (qk low high line : B → ℕ) where
   abbrev value : A → Event
@@ -41,21 +40,10 @@ module _ {A B : Type 0} (vk vv : A → ℕ) (qk low high line : B → ℕ) where
       ∙ (ap (λ b. list_any (comes_before (qk y) (low y) (high y)) (map value xs) || b) (no_question (qk y) (low y) (high y) ys)
       ∙ (or-false (list_any (comes_before (qk y) (low y) (high y)) (map value xs)) ∙ by_values y xs)))
 
-  no_lines : (all : List Event) (xs : List A) → least_line_of (line_asked all) (map value xs) ≡ None
-  no_lines all [] = refl
-  no_lines all (x ∷ xs) = no_lines all xs
-
   lines : (all : List Event) (f : B → Option ℕ) → ((y : B) → line_asked all (question y) ≡ f y) → (ys : List B)
       → least_line_of (line_asked all) (map question ys) ≡ least_line_of f ys
   lines all f h [] = refl
   lines all f h (y ∷ ys) = ap (λ o. least_line o (least_line_of (line_asked all) (map question ys))) (h y) ∙ ap (least_line (f y)) (lines all f h ys)
-
-  pub met-asked : (xs : List A) (ys : List B)
-      → least_met (map value xs ++ map question ys) ≡ least_line_of (λ y. line_when (list_any (answers y) xs) (line y)) ys
-  met-asked xs ys =
-      least_line_of-append (line_asked (map value xs ++ map question ys)) (map value xs) (map question ys)
-      ∙ (ap (λ o. least_line o (least_line_of (line_asked (map value xs ++ map question ys)) (map question ys))) (no_lines (map value xs ++ map question ys) xs)
-      ∙ lines (map value xs ++ map question ys) (λ y. line_when (list_any (answers y) xs) (line y)) (one xs ys) ys)
 
   -- all lines, as a test of a line sees them
   module _ (test : ℕ → Bool) where
@@ -92,12 +80,6 @@ with_event-same : (vs ws : List ℕ) → Alike vs ws → (e : Event) → Alike (
 with_event-same vs ws h (Value k v) test = ap (λ b. test v || b) (h test)
 with_event-same vs ws h (Question k low high line) test = h test
 
-least_swept-same : (vs ws : List ℕ) → Alike vs ws → (es : List Event) → least_swept vs es ≡ least_swept ws es
-least_swept-same vs ws h [] = refl
-least_swept-same vs ws h (e ∷ es) =
-    ap (λ o. least_line o (least_swept (with_event e vs) es)) (line_met-same vs ws h e)
-    ∙ ap (least_line (line_met ws e)) (least_swept-same (with_event e vs) (with_event e ws) (with_event-same vs ws h e) es)
-
 lines_swept-same : (vs ws : List ℕ) → Alike vs ws → (es : List Event) → lines_swept vs es ≡ lines_swept ws es
 lines_swept-same vs ws h [] = refl
 lines_swept-same vs ws h (e ∷ es) =
@@ -112,13 +94,6 @@ lines-next vs ws found next whole e es xs h d k n =
     ∙ (append_assoc found (option_to_list (line_met vs e)) (lines_swept ws es)
     ∙ (ap (λ ls. found ++ (option_to_list (line_met vs e) ++ ls)) (lines_swept-same ws (with_event e vs) h es)
     ∙ (ap (λ ys. found ++ lines_swept vs ys) (sym d) ∙ k)))
-
--- one event more
-pub swept-next : (best : Option ℕ) (vs ws : List ℕ) (e : Event) (es : List Event) → Alike ws (with_event e vs)
-    → least_line (least_line best (line_met vs e)) (least_swept ws es) ≡ least_line best (least_swept vs (e ∷ es))
-swept-next best vs ws e es h =
-    ap (least_line (least_line best (line_met vs e))) (least_swept-same ws (with_event e vs) h es)
-    ∙ least_line-assoc best (line_met vs e) (least_swept (with_event e vs) es)
 
 -- ---- events in order
 
@@ -189,28 +164,11 @@ line_here before (Question key low high line) es b a =
     ∙ (ap (λ t. list_any (comes_before key low high) before || t) (none_after key low high (2 * key) es (omega arith) a)
     ∙ (or-false (list_any (comes_before key low high) before) ∙ all_before key low high before b))))
 
-swept-asked : (n : ℕ) (before es : List Event) → Below n before → Ascending n es
-    → least_swept (values_of before) es ≡ least_line_of (line_asked (before ++ es)) es
-swept-asked n before [] b a = refl
-swept-asked n before (e ∷ es) b a =
-    ap (λ o. least_line o (least_swept (with_event e (values_of before)) es)) (line_here before e es (below-later n (rank e) before a.0 b) a.1)
-    ∙ ap (least_line (line_asked (before ++ e ∷ es) e))
-    (least_swept-same (with_event e (values_of before)) (values_of (before ++ e ∷ [])) (λ test. sym (values_of-push before e test)) es
-    ∙ (swept-asked (rank e) (before ++ e ∷ []) es (below-push (rank e) before e (below-later n (rank e) before a.0 b) (omega arith)) a.1
-    ∙ ap (λ all. least_line_of (line_asked all) es) (append_assoc before (e ∷ []) es)))
-
 -- ---- events in another order
 
 line_asked-permutation : (xs ys : List Event) → IsPermutation xs ys → (e : Event) → line_asked ys e ≡ line_asked xs e
 line_asked-permutation xs ys p (Value k v) = refl
 line_asked-permutation xs ys p (Question key low high line) = ap (λ b. line_when b line) (any-permutation (comes_before key low high) xs ys p)
-
-least_met-permutation : (xs ys : List Event) → IsPermutation xs ys → least_met ys ≡ least_met xs
-least_met-permutation xs ys p =
-    least_line_of-same (line_asked ys) (line_asked xs) (line_asked-permutation xs ys p) ys ∙ least_line_of-permutation (line_asked xs) xs ys p
-
-pub sorted-met : (xs ys : List Event) → IsPermutation xs ys → IsNonDecreasingBy rank ys → least_swept [] ys ≡ least_met xs
-sorted-met xs ys p h = swept-asked 0 [] ys tt (ascending ys h) ∙ least_met-permutation xs ys p
 
 -- ---- all lines
 

@@ -2,7 +2,7 @@
 use Rattle.std.specs.Prelude.{ℕ, Bool, false, ◌||◌, nat_eq, if◌then◌else◌, List, [], ◌∷◌, ◌++◌, Option, Some, None, is_none, option_to_list}
 use Rattle.std.specs.List.{list_any}
 use Rattle.hep_machine.specs.Words.{Statement, is_executable, index_labelled}
-use Rattle.hep_conditions.specs.Words.{targets_of_jump, terminal_labels, least_line, line_when, least_line_where}
+use Rattle.hep_conditions.specs.Words.{targets_of_jump, terminal_labels, line_when}
 
 -- the label of an executable statement
 abbrev pub executable_label : Statement → Option ℕ
@@ -24,10 +24,6 @@ goes_nowhere unit s = list_any (is_absent unit) (targets_of_jump s.form ++ termi
 abbrev pub line_of : Statement → ℕ
 line_of s = s.line
 
--- the least line of such a statement among these
-abbrev pub least_unlabelled : List Statement → List Statement → Option ℕ
-least_unlabelled unit ss = least_line_where (goes_nowhere unit) line_of ss
-
 -- whether a label is among those seen so far
 abbrev pub is_seen : (ℕ → Bool) → Option ℕ → Bool
 is_seen seen None = false
@@ -36,11 +32,6 @@ is_seen seen (Some l) = seen l
 abbrev pub with_seen : (ℕ → Bool) → Option ℕ → ℕ → Bool
 with_seen seen None k = seen k
 with_seen seen (Some l) k = nat_eq k l || seen k
-
--- the least line of a statement whose label was seen, or an earlier statement has
-abbrev pub least_repeated : (ℕ → Bool) → List Statement → Option ℕ
-least_repeated seen [] = None
-least_repeated seen (s ∷ ss) = least_line (line_when (is_seen seen s.label) s.line) (least_repeated (with_seen seen s.label) ss)
 
 -- the lines of statements whose label was seen or an earlier statement has, and of those that refer to a label which no statement has
 abbrev pub lines_from : List Statement → (ℕ → Bool) → List Statement → List ℕ

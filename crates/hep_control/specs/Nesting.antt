@@ -3,7 +3,7 @@ use Rattle.std.specs.Prelude.{ℕ, suc, Bool, false, nat_le, max, if◌then◌el
 use Rattle.std.specs.Option.{unwrap_or}
 use Rattle.hep_machine.specs.Words.{Name, Statement, same_name, line_at}
 use Rattle.hep_conditions.specs.Nesting as nesting
-use Rattle.hep_conditions.specs.Words.{least_line, line_when}
+use Rattle.hep_conditions.specs.Words.{line_when}
 use Rattle.hep_control.specs.declared.blocks.BlockIf.{BlockIf}
 use Rattle.hep_control.specs.declared.region.DoRange.{DoRange}
 use Rattle.hep_control.specs.declared.sweep.Event.{Event}
@@ -62,12 +62,6 @@ with_range last r x = if same_name r.variable x then Some (later (last r.variabl
 abbrev pub reaches : Option ℕ → ℕ → Bool
 reaches None k = false
 reaches (Some t) k = nat_le k t
-
--- the least line of a DO in an earlier range with the same variable, among these or those read before
-abbrev pub least_shared : List Statement → (Name → Option ℕ) → List nesting.DoRange → Option ℕ
-least_shared unit last [] = None
-least_shared unit last (r ∷ rs) =
-    least_line (line_when (reaches (last r.variable) r.start) (line_at unit r.start)) (least_shared unit (with_range last r) rs)
 
 -- the lines of all such DOs
 abbrev pub lines_shared : List Statement → (Name → Option ℕ) → List nesting.DoRange → List ℕ

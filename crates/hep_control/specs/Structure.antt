@@ -4,7 +4,7 @@ use Rattle.std.specs.List.{flat_map}
 use Rattle.std.specs.Option.{unwrap_or}
 use Rattle.hep_machine.specs.Words.{Form, Statement, line_at, statement_at, index_labelled}
 use Rattle.hep_source.specs.declared.statement.Form.TheVariants as form
-use Rattle.hep_conditions.specs.Words.{IndexedStatement, is_unconditional, is_wrong_terminal, holds_wrongly, least_line, line_when, least_line_of}
+use Rattle.hep_conditions.specs.Words.{IndexedStatement, is_unconditional, is_wrong_terminal, holds_wrongly, least_line, line_when}
 use Rattle.hep_control.specs.declared.blocks.BlockIf.{BlockIf}
 
 -- what such a list says of the statement at an index
@@ -31,9 +31,6 @@ statement_line unit is_variable p =
     least_line (line_when (holds_wrongly p.statement.conditions p.statement.form) p.statement.line)
     (if is_unconditional p.statement then loop_line unit is_variable p.statement.line p.index p.statement.form else None)
 
-abbrev pub least_statement : List Statement → List Bool → List IndexedStatement → Option ℕ
-least_statement unit variables ps = least_line_of (λ (p : IndexedStatement). statement_line unit (variable_at variables p.index) p) ps
-
 -- all lines of violations by the terminal statement of a DO
 
 abbrev pub terminal_lines : List Statement → ℕ → ℕ → Option ℕ → List ℕ
@@ -54,12 +51,6 @@ abbrev pub lines_alone : List Statement → List Bool → List IndexedStatement 
 lines_alone unit variables ps = flat_map (λ (p : IndexedStatement). statement_lines unit (variable_at variables p.index) p) ps
 
 -- ---- the lines of block IFs that aren't complete
-
-abbrev pub line_of_stray : List Statement → ℕ → Option ℕ
-line_of_stray unit k = Some (line_at unit k)
-
-abbrev pub line_of_unclosed : List Statement → BlockIf → Option ℕ
-line_of_unclosed unit b = Some (line_at unit b.start)
 
 abbrev pub start_line : List Statement → BlockIf → ℕ
 start_line unit b = line_at unit b.start

@@ -1,7 +1,7 @@
 -- The sweep over values and questions: whether a value with a lesser key is in an interval.
 use Rattle.std.specs.Prelude.{ℕ, ◌+◌, ◌*◌, Bool, false, ◌&&◌, nat_lt, nat_le, List, [], ◌∷◌, ◌++◌, Option, None, option_to_list}
 use Rattle.std.specs.List.{flat_map, list_any}
-use Rattle.hep_conditions.specs.Words.{least_line, line_when, least_line_of}
+use Rattle.hep_conditions.specs.Words.{line_when}
 use Rattle.hep_control.specs.declared.sweep.Event.{Event}
 use Rattle.hep_control.specs.declared.sweep.Event.TheVariants.{Value, Question}
 
@@ -17,10 +17,6 @@ comes_before key low high (Question k l h line) = false
 abbrev pub line_asked : List Event → Event → Option ℕ
 line_asked events (Value k v) = None
 line_asked events (Question key low high line) = line_when (list_any (comes_before key low high) events) line
-
--- the least line in the answers to the questions, in any order of events
-abbrev pub least_met : List Event → Option ℕ
-least_met events = least_line_of (line_asked events) events
 
 -- all lines in the answers to the questions
 abbrev pub lines_asked : List Event → List ℕ
@@ -39,10 +35,6 @@ line_met values (Question k low high line) = line_when (list_any (is_within low 
 abbrev pub with_event : Event → List ℕ → List ℕ
 with_event (Value k v) values = v ∷ values
 with_event (Question k low high line) values = values
-
-abbrev pub least_swept : List ℕ → List Event → Option ℕ
-least_swept values [] = None
-least_swept values (e ∷ es) = least_line (line_met values e) (least_swept (with_event e values) es)
 
 abbrev pub lines_swept : List ℕ → List Event → List ℕ
 lines_swept values [] = []

@@ -7,7 +7,7 @@ ghost use Rattle.indexmap.specs.IndexMap.{get};
 ghost use Rattle.indexmap.specs.IndexSet.{contains};
 ghost use Rattle.hep_machine.specs.Control as control;
 ghost use Rattle.hep_machine.specs.Words.{role_of, statement_at};
-ghost use Rattle.hep_conditions.specs.Words.{label_violations, targets_of_jump, terminal_labels, first_of, least_line_of};
+ghost use Rattle.hep_conditions.specs.Words.{label_violations, targets_of_jump, terminal_labels};
 ghost use Rattle.hep_conditions.specs.declared.violation.Violation.{Violation as PureViolation};
 ghost use Rattle.hep_conditions.specs.Nesting as nesting;
 ghost use Rattle.hep_control.specs.Labels as passes;
@@ -16,9 +16,8 @@ ghost use Rattle.hep_control.specs.Jumps as spec;
 
 use crate::region::{Jump, Region};
 use crate::regions::regions_of;
-use crate::sweep::{Event, add_met, least_met, question, value};
-use hep_conditions::Violation;
-use hep_conditions::reported::{add_line, lesser, line_when, reported};
+use crate::sweep::{Event, add_met, question, value};
+use hep_conditions::reported::{add_line, line_when};
 use hep_source::{Form, Statement, is_executable};
 use indexmap::{IndexMap, IndexSet};
 use std::alloc::{AllocError, Global};
@@ -100,20 +99,6 @@ impl<'a> Labels<'a> {
     }
 }
 
-/// The first violation of 306: a statement refers to a label that no executable statement has, or two
-/// statements have the same label.
-///
-/// # Errors
-///
-/// Only where memory was refused.
-pub fn label_violation(alloc: Global, labels: &Labels) -> Result<Option<Violation>, AllocError>
-    ensures { IfOk result (λ violation. violation ≡ first_of (label_violations labels.now)) }
-{
-    let unlabelled = least_unlabelled(labels);
-    let repeated = least_repeated(alloc, labels.unit())?;
-    Ok(reported(306, lesser(unlabelled, repeated)))
-}
-
 /// The lines of all violations of 306, in any order.
 ///
 /// # Errors
@@ -134,18 +119,6 @@ pub fn label_lines(alloc: Global, labels: &Labels) -> Result<Vec<u32>, AllocErro
         add_line(&mut lines, line_when(is_absent, statement.line))?;
     }
     Ok(lines)
-}
-
-// The least line of a statement that refers to a label which no executable statement has.
-fn least_unlabelled(labels: &Labels) -> Option<u32>
-    ensures { result ≡ passes.least_unlabelled labels.now labels.now }
-{
-    let mut least = None;
-    for statement in labels.unit() {
-        let is_reported = goes_nowhere(labels, &statement.form);
-        least = lesser(least, line_when(is_reported, statement.line));
-    }
-    least
 }
 
 // Whether a statement refers to a label which no executable statement has.
@@ -174,21 +147,6 @@ fn is_any_absent(labels: &Labels, targets: &[u32]) -> bool
         }
     }
     false
-}
-
-// The least line of a statement whose label an earlier statement has.
-fn least_repeated(alloc: Global, unit: &[Statement]) -> Result<Option<u32>, AllocError>
-    ensures { IfOk result (λ line. line ≡ passes.least_repeated (λ l. false) unit.now) }
-{
-    let mut seen = SeenLabels {
-        set: IndexSet::new(alloc),
-    };
-    let mut least = None;
-    for statement in unit {
-        let is_reported = is_repeated(&mut seen.set, statement.label)?;
-        least = lesser(least, line_when(is_reported, statement.line));
-    }
-    Ok(least)
 }
 
 // The set of labels seen so far.
@@ -231,23 +189,6 @@ fn note(indices: &mut IndexMap<u32, usize>, label: u32, index: usize) -> Result<
 {
     indices.entry(label)?.or_insert(index);
     Ok(())
-}
-
-/// The first violation of 308: a jump into the range of a DO or a block of a block IF, or to an ELSE IF
-/// or ELSE.
-///
-/// # Errors
-///
-/// Only where memory was refused.
-pub fn jump_violation(alloc: Global, labels: &Labels) -> Result<Option<Violation>, AllocError>
-    ensures { IfOk result (λ violation. violation ≡ first_of (nesting.jump_violations labels.now)) }
-{
-    let regions = regions_of(alloc, labels)?;
-    let jumps = jumps_of(alloc, labels)?;
-    let late = least_met(alloc, events_by_start(alloc, &regions, &jumps)?)?;
-    let early = least_met(alloc, events_by_end(alloc, &regions, &jumps)?)?;
-    let division = least_to_division(labels.unit(), &jumps);
-    Ok(reported(308, lesser(lesser(late, early), division)))
 }
 
 /// The lines of all violations of 308, in any order.
@@ -395,17 +336,6 @@ fn add_ends(events: &mut Vec<Event>, regions: &[Region]) -> Result<(), AllocErro
         events.push(value(usize::MAX - region.before, region.after))?;
     }
     Ok(())
-}
-
-// The least line of a jump to an ELSE IF or ELSE.
-fn least_to_division(unit: &[Statement], jumps: &[Jump]) -> Option<u32>
-    ensures { result ≡ least_line_of (spec.line_to_division unit.now) jumps.now }
-{
-    let mut least = None;
-    for jump in jumps {
-        least = lesser(least, line_when(is_division(unit, jump.to), jump.line));
-    }
-    least
 }
 
 // Adds the lines of the jumps to an ELSE IF or ELSE.

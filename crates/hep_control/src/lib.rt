@@ -1,7 +1,7 @@
 //! The structure of a program unit: its labels, DOs and block IFs (X3.9-1978, section 11).
 //!
-//! [`Control`] answers where control goes from a statement, and [`Labels`] is the table of labels. The functions named `_violation`
-//! find the first violation of 306, 307 and 308, and those named `_lines` the lines of all violations.
+//! [`Control`] answers where control goes from a statement, and [`Labels`] is the table of labels. The functions named `_lines`
+//! find the lines of all violations of 306, 307 and 308.
 #![tactic(auto)]
 
 pub(crate) mod blocks;
@@ -17,5 +17,5 @@ pub(crate) mod successors;
 pub(crate) mod sweep;
 
 pub use control::Control;
-pub use labels::{Labels, jump_lines, jump_violation, label_lines, label_violation};
-pub use structure::{structure_lines, structure_violation};
+pub use labels::{Labels, jump_lines, label_lines};
+pub use structure::structure_lines;

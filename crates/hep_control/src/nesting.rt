@@ -6,36 +6,16 @@ ghost use Rattle.hep_source.specs.declared.name.Name.{Name as PureName};
 ghost use Rattle.hep_source.specs.Names as names;
 ghost use Rattle.hep_conditions.specs.Nesting as nesting;
 ghost use Rattle.hep_conditions.specs.declared.violation.Violation.{Violation as PureViolation};
-ghost use Rattle.hep_conditions.specs.Words.{reported, first_of};
 ghost use Rattle.hep_control.specs.Ranges.{do_range};
 ghost use Rattle.hep_control.specs.Nesting as spec;
 
 use crate::blocks::{BlockIf, BlockIfs};
 use crate::region::DoRange;
-use crate::sweep::{Event, add_met, least_met, question, value};
-use hep_conditions::reported::{add_line, lesser, line_when};
+use crate::sweep::{Event, add_met, question, value};
+use hep_conditions::reported::{add_line, line_when};
 use hep_source::{Name, Statement, line_at};
 use indexmap::IndexMap;
 use std::alloc::{AllocError, Global};
-
-// The least line of a DO or a block IF that isn't nested in the ranges and blocks around it.
-pub(crate) fn least_crossing(
-    alloc: Global,
-    unit: &[Statement],
-    ranges: &[DoRange],
-    blocks: &BlockIfs,
-) -> Result<Option<u32>, AllocError>
-    requires ranges { map do_range ranges.now ≡ nesting.ranges_of unit.now }
-    requires blocks { blocks.now ≡ nesting.block_ifs_of unit.now }
-    ensures { IfOk result (λ line. reported 307 line ≡ first_of (nesting.nesting_violations unit.now)) }
-{
-    let closed = blocks.closed();
-    let crossed = least_met(alloc, events_of_ranges(alloc, unit, ranges)?)?;
-    let shared = least_shared(alloc, unit, ranges)?;
-    let by_block = least_met(alloc, events_of_blocks(alloc, unit, ranges, closed)?)?;
-    let by_range = least_met(alloc, events_in_blocks(alloc, unit, ranges, closed)?)?;
-    Ok(lesser(lesser(crossed, shared), lesser(by_block, by_range)))
-}
 
 // Adds the lines of the DOs and block IFs that aren't nested in the ranges and blocks around them.
 pub(crate) fn add_crossing(
@@ -149,25 +129,6 @@ fn add_ends(events: &mut Vec<Event>, block: &BlockIf) -> Result<(), AllocError>
         events.push(value(block.start, end))?;
     }
     Ok(())
-}
-
-// The least line of a DO in the range of another DO with the same variable.
-fn least_shared(
-    alloc: Global,
-    unit: &[Statement],
-    ranges: &[DoRange],
-) -> Result<Option<u32>, AllocError>
-    ensures { IfOk result (λ line. line ≡ spec.least_shared unit.now (λ x. None) (map do_range ranges.now)) }
-{
-    let mut last = LastTerminals {
-        map: IndexMap::new(alloc),
-    };
-    let mut least = None;
-    for range in ranges {
-        let is_reported = is_shared(&mut last.map, range)?;
-        least = lesser(least, line_when(is_reported, line_at(unit, range.start)));
-    }
-    Ok(least)
 }
 
 // Adds the lines of the DOs in the range of another DO with the same variable.

@@ -5,43 +5,19 @@ ghost use Rattle.hep_source.specs.Units as units;
 ghost use Rattle.hep_conditions.specs.declared.violation.Violation.{Violation as PureViolation};
 ghost use Rattle.hep_conditions.specs.Nesting as nesting;
 ghost use Rattle.hep_conditions.specs.Reported as lines;
-ghost use Rattle.hep_conditions.specs.Words.{FunctionTypes, first_of};
+ghost use Rattle.hep_conditions.specs.Words.{FunctionTypes};
 ghost use Rattle.hep_control.specs.Structure as spec;
 
 use crate::blocks::{BlockIf, BlockIfs, block_ifs_of};
 use crate::labels::Labels;
-use crate::nesting::{add_crossing, least_crossing};
+use crate::nesting::add_crossing;
 use crate::ranges::ranges_of;
-use hep_conditions::Violation;
-use hep_conditions::reported::{add_line, lesser, line_when, reported};
+use hep_conditions::reported::{add_line, line_when};
 use hep_source::{Form, Statement, line_at};
 use std::alloc::{AllocError, Global};
 
-/// The first violation of 307: a DO or a logical IF that is wrong by itself, a block IF that isn't
-/// complete, or ranges and blocks that aren't nested. `loop_variables` says for each statement whether its DO variable, if it
+/// The lines of all violations of 307, in any order. `loop_variables` says for each statement whether its DO variable, if it
 /// has one, is an integer scalar without `$` and no function.
-///
-/// # Errors
-///
-/// Only where memory was refused.
-pub fn structure_violation(
-    alloc: Global,
-    labels: &Labels,
-    loop_variables: &[bool],
-) -> Result<Option<Violation>, AllocError>
-    ensures { IfOk result (λ violation. (functions : FunctionTypes) → loop_variables.now ≡ nesting.loop_variables functions labels.now
-        → violation ≡ first_of (nesting.structure_violations functions labels.now)) }
-{
-    let unit = labels.unit();
-    let ranges = ranges_of(alloc, labels)?;
-    let blocks = block_ifs_of(alloc, unit)?;
-    let alone = least_statement(labels, loop_variables);
-    let unmatched = least_unmatched(unit, &blocks);
-    let crossing = least_crossing(alloc, unit, &ranges, &blocks)?;
-    Ok(reported(307, lesser(alone, lesser(unmatched, crossing))))
-}
-
-/// The lines of all violations of 307, in any order. `loop_variables` is as for [`structure_violation`].
 ///
 /// # Errors
 ///
@@ -100,50 +76,6 @@ fn add_unclosed(
         lines.push(line_at(unit, block.start))?;
     }
     Ok(())
-}
-
-// The least line of an ELSE IF, ELSE or END IF of no block IF, or of a block IF without END IF.
-fn least_unmatched(unit: &[Statement], blocks: &BlockIfs) -> Option<u32>
-    requires { blocks.now ≡ nesting.block_ifs_of unit.now }
-    ensures { lines.reported 307 result ≡ first_of (nesting.block_violations unit.now) }
-{
-    lesser(
-        least_stray(unit, blocks.stray()),
-        least_unclosed(unit, blocks.unclosed()),
-    )
-}
-
-fn least_stray(unit: &[Statement], stray: &[usize]) -> Option<u32>
-    ensures { result ≡ lines.least_line_of (spec.line_of_stray unit.now) stray.now }
-{
-    let mut least = None;
-    for index in stray {
-        least = lesser(least, Some(line_at(unit, *index)));
-    }
-    least
-}
-
-fn least_unclosed(unit: &[Statement], blocks: &[BlockIf]) -> Option<u32>
-    ensures { result ≡ lines.least_line_of (spec.line_of_unclosed unit.now) blocks.now }
-{
-    let mut least = None;
-    for block in blocks {
-        least = lesser(least, Some(line_at(unit, block.start)));
-    }
-    least
-}
-
-// The least line of a statement that violates 307 on its own.
-fn least_statement(labels: &Labels, loop_variables: &[bool]) -> Option<u32>
-    ensures { result ≡ spec.least_statement labels.now loop_variables.now (nesting.indexed_statements labels.now) }
-{
-    let mut least = None;
-    for (index, statement) in labels.unit().iter().enumerate() {
-        let is_variable = is_loop_variable(loop_variables, index);
-        let line = statement_line(labels, is_variable, index, statement);
-        least = lesser(least, line);
-    }
-    least
 }
 
 // Adds the lines of statements that violate 307 on their own.
@@ -220,50 +152,6 @@ fn is_loop_variable(loop_variables: &[bool], index: usize) -> bool
     ensures { result ≡ spec.variable_at loop_variables.now index }
 {
     loop_variables.get(index).copied().unwrap_or(true)
-}
-
-// The least line of a statement's violation of 307 on its own, if there is one. `is_variable` says whether the variable
-// of a DO may be a DO variable.
-fn statement_line(
-    labels: &Labels,
-    is_variable: bool,
-    index: usize,
-    statement: &Statement,
-) -> Option<u32>
-    ensures { result ≡ spec.statement_line labels.now is_variable (record { index = index; statement = statement.now }) }
-{
-    let held = line_when(holds_wrongly(statement), statement.line);
-    if statement.conditions.as_slice().is_empty() {
-        lesser(held, loop_line(labels, is_variable, index, statement))
-    } else {
-        lesser(held, None)
-    }
-}
-
-// The lines for a DO.
-fn loop_line(labels: &Labels, is_variable: bool, index: usize, statement: &Statement) -> Option<u32>
-    ensures { result ≡ spec.loop_line labels.now is_variable statement.now.line index statement.now.form }
-{
-    match &statement.form {
-        Form::Do(control) => {
-            let variable = line_when(!is_variable, statement.line);
-            let terminal = labels.index_labelled(control.terminal);
-            lesser(
-                variable,
-                terminal_line(labels, statement.line, index, terminal),
-            )
-        }
-        _ => None,
-    }
-}
-
-// The lines for the terminal statement of a DO.
-fn terminal_line(labels: &Labels, line: u32, index: usize, terminal: Option<usize>) -> Option<u32>
-    ensures { result ≡ spec.terminal_line labels.now line index terminal }
-{
-    let terminal = terminal?;
-    let before = line_when(terminal < index, line);
-    lesser(before, wrong_terminal_line(labels, terminal))
 }
 
 // The line of a terminal statement, where its form is not allowed there.

@@ -4,7 +4,7 @@ ghost use Rattle.std.specs.Prelude.{◌≡◌, ◌||◌, ℕ, Bool, IfOk, OnOk};
 ghost use Rattle.std.specs.List.{list_any};
 ghost use Rattle.hep_control.specs.Sweep as sweep;
 
-use hep_conditions::reported::{add_line, lesser, line_when};
+use hep_conditions::reported::{add_line, line_when};
 use std::alloc::{AllocError, Global};
 use std::collections::BTreeSet;
 
@@ -49,20 +49,6 @@ fn rank(event: &Event) -> u128
         Event::Value { key, .. } => 2 * (*key as u128) + 1,
         Event::Question { key, .. } => 2 * (*key as u128),
     }
-}
-
-// The least line in the answers to the questions.
-pub(crate) fn least_met(alloc: Global, mut events: Vec<Event>) -> Result<Option<u32>, AllocError>
-    ensures { IfOk result (λ line. line ≡ sweep.least_met events.items) }
-{
-    events.sort_by_key(|event| rank(event))?;
-    let mut values = BTreeSet::new(alloc);
-    let mut least = None;
-    for event in &events {
-        let line = line_met(&mut values, event)?;
-        least = lesser(least, line);
-    }
-    Ok(least)
 }
 
 // Adds the lines in the answers to the questions, in any order.

@@ -13,8 +13,7 @@ use Rattle.hep_code.specs.declared.instruction.Instruction.{Instruction}
 use Rattle.hep_code.specs.declared.instruction.Instruction.TheVariants.{Push, Step, To, Pass, Show}
 use Rattle.hep_code.specs.declared.instruction.Operation.{Operation}
 use Rattle.hep_code.specs.declared.instruction.Operation.TheVariants.{Condition, Evaluate, Refer}
-use Rattle.hep_code.specs.Words.{AddressedUnit, Stands, addressed_unit, Table, actual_code, actual_listed_code, actual_name_code, actuals_code_in, argument_of, argument_of_target, asked_code, asked_listed_code, code_of, conditions_code, control_code, count, ending_of, evaluating, item_code, listed_code, loop_end_code, name_code, names_of, operands_code, operation_code, passes, printed_of, statement_code, statements_code, table_of, target_code, tree_code, trees_code, work_code}
-use Rattle.hep_code.specs.Tables.{NameTable}
+use Rattle.hep_code.specs.Words.{AddressedUnit, Stands, addressed_unit, Table, actual_code, actual_listed_code, actual_name_code, actuals_code_in, argument_of, argument_of_target, asked_code, asked_listed_code, code_of, conditions_code, control_code, count, ending_of, evaluating, item_code, listed_code, loop_end_code, name_code, names_of, operands_code, operation_code, passes, printed_of, statement_code, statements_code, table_of, target_code, tree_code, trees_code, work_code, NameTable}
 use Rattle.hep_code.specs.declared.variable.Variable.{Variable}
 use Rattle.hep_image.specs.Places.{addresses_of}
 use Rattle.hep_cover.specs.RemainingOperations.{ahead_by, noted, noted_by, noted_from, operations_ahead}

@@ -5,9 +5,7 @@ use Rattle.std.proofs.lemmas.Option.{none-some, same_Some}
 use Rattle.hep_code.specs.Words.{ending_of}
 use Rattle.hep_image.specs.Places.{variable_of}
 use Rattle.hep_machine.specs.Evaluation.{reading}
-use Rattle.hep_machine.specs.Words.{Action, Level, Name, Next, Process, Redex, Scope, State, Statement, Units, next_of, run, unit_at, unit_of, does, evaluating, function_name, referring, signing, negating, combining, applying, testing, wants}
-use Rattle.hep_machine.specs.Words.{assigning, jumping, choosing, branching, testing_condition, entering_block, entering_loop, ending_loop, calling, creating, purging, printing, continuing, leaving, resuming, stopping}
-use Rattle.hep_source.specs.declared.function.StateFunction.{StateFunction}
+use Rattle.hep_machine.specs.Words.{Action, Level, Name, Next, Process, Redex, Scope, State, Statement, Units, next_of, run, unit_at, unit_of, does, evaluating, function_name, referring, signing, negating, combining, applying, testing, wants, StateFunction, assigning, jumping, choosing, branching, testing_condition, entering_block, entering_loop, ending_loop, calling, creating, purging, printing, continuing, leaving, resuming, stopping}
 use Rattle.hep_step.specs.Simulation.{RunningTop, unit_addressed, unit_running}
 use Rattle.hep_step.proofs.RunningActivations.{Comes, coming}
 use Rattle.hep_state.specs.declared.core_state.CoreState.{CoreState}

@@ -9,10 +9,9 @@ use Rattle.hep_image.specs.Places.{variable_of}
 use Rattle.hep_layout.specs.Words.{address}
 use Rattle.hep_machine.specs.declared.event.Kind.{Kind}
 use Rattle.hep_machine.specs.declared.slot.Slot.{Slot}
-use Rattle.hep_machine.specs.Words.{Level, Location, Next, Process, Reference, State, Statement, Units, Value, living, run}
+use Rattle.hep_machine.specs.Words.{Level, Location, Next, Process, Reference, State, Statement, Units, Value, living, run, StateFunction}
 use Rattle.hep_proc.specs.FrameTable.{FramesOf, Keeps}
 use Rattle.hep_proc.specs.Nodes.{nodes_of}
-use Rattle.hep_source.specs.declared.function.StateFunction.{StateFunction}
 use Rattle.hep_state.specs.declared.core_state.CoreState.{CoreState}
 use Rattle.hep_event.specs.NamedVariables.{IsNamed, named_by}
 use Rattle.hep_event.specs.Sites.{IsSiteAfter, IsVariableOf}

@@ -4,9 +4,7 @@ use Rattle.hep_code.specs.declared.instruction.Evaluation.TheVariants.{Load, Tes
 use Rattle.hep_code.specs.declared.instruction.Operation.{Operation}
 use Rattle.hep_code.specs.declared.instruction.Operation.TheVariants.{Answer, EndLoop, Evaluate}
 use Rattle.hep_machine.specs.declared.event.Kind.{Kind}
-use Rattle.hep_machine.specs.Words.{Location, Units, run}
-use Rattle.hep_source.specs.declared.function.StateFunction.{StateFunction}
-use Rattle.hep_source.specs.declared.function.StateFunction.TheVariants.{ValueOf}
+use Rattle.hep_machine.specs.Words.{Location, Units, run, StateFunction, ValueOf}
 use Rattle.hep_state.specs.declared.core_state.CoreState.{CoreState}
 use Rattle.hep_event.specs.Sites.{IsSiteAfter}
 use Rattle.hep_event.specs.declared.sites.Site.{Site}

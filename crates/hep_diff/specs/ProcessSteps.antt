@@ -1,17 +1,13 @@
 -- The values that the steps of a process read: docs/RUNS.md, "What differs".
-use Rattle.std.specs.Prelude.{ℕ, suc, nat_eq, if◌then◌else◌, List, [], ◌∷◌, ◌++◌, drop, take, Option, Some, None, option_to_list, Result, Ok, Err}
+use Rattle.std.specs.Prelude.{ℕ, suc, nat_eq, if◌then◌else◌, List, [], ◌++◌, drop, take, Option, Some, None, option_to_list, Result, Ok, Err}
 use Rattle.std.specs.Option.{option_map}
 use Rattle.hep_machine.specs.declared.event.Entry.{Entry}
 use Rattle.hep_machine.specs.declared.event.Kind.{Kind}
 use Rattle.hep_machine.specs.declared.slot.Slot.{Slot}
-use Rattle.hep_machine.specs.Access.{is_empty, is_full}
 use Rattle.hep_machine.specs.Evaluation.{reading}
-use Rattle.hep_machine.specs.Words.{Level, Location, Name, Next, Process, Reference, Scope, State, Statement, Units, Value, does, ending_loop, evaluating, function_name, leaving, line_at, living, location_of_name, next_of, scope_of, state_after, testing, unit_at, unit_of, variable_of, wants}
+use Rattle.hep_machine.specs.Words.{Level, Location, Name, Next, Process, Reference, Scope, State, Statement, Units, Value, does, ending_loop, evaluating, function_name, leaving, line_at, living, location_of_name, next_of, scope_of, state_after, testing, unit_at, unit_of, variable_of, wants, is_empty, is_full, StateFunction, IsEmpty, IsFull, ValueOf, Truth}
 unfoldable pub use Rattle.hep_fold.specs.Turns.{seen_along}
 use Rattle.hep_fold.specs.Turns.{turns_from}
-use Rattle.hep_source.specs.declared.function.StateFunction.{StateFunction}
-use Rattle.hep_source.specs.declared.function.StateFunction.TheVariants.{IsEmpty, IsFull, ValueOf}
-use Rattle.hep_source.specs.declared.value.Value.TheVariants.{Truth}
 use Rattle.hep_views.specs.ListedProcesses.{place_of}
 use Rattle.hep_diff.specs.declared.process_step.ProcessStep.{ProcessStep}
 use Rattle.hep_diff.specs.declared.process_step.CellReading.{CellReading}

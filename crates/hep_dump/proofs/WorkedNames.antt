@@ -1,5 +1,5 @@
 -- Worked elements.
-use Rattle.std.proofs.Common.{◌≡◌, ℤ, pos, negsuc, Some, List, [], ◌∷◌, refl, codes}
+use Rattle.std.proofs.Common.{◌≡◌, ℤ, pos, negsuc, Some, [], ◌∷◌, refl, codes}
 use Rattle.std.specs.Fmt.{digits}
 use Rattle.hep_machine.specs.declared.shape.Bound.{Bound}
 use Rattle.hep_dump.specs.Elements.{subscripts_text}

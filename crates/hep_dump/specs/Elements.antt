@@ -1,7 +1,7 @@
 -- The text of an element of an array, by its place among the elements: X3.9-1978, 5.4.
 use Rattle.std.specs.Prelude.{ℕ, suc, ◌/◌, ◌%◌, ℤ, pos, ◌+ℤ◌, ◌-ℤ◌, List, [], ◌∷◌, ◌++◌, codes, Option, Some, None}
 use Rattle.std.specs.Fmt.{signed_decimal}
-use Rattle.hep_machine.specs.Words.{Bounds, natural}
+use Rattle.hep_machine.specs.Words.{natural}
 use Rattle.hep_machine.specs.declared.shape.Bound.{Bound}
 
 -- the number of subscripts of a dimension; no array in COMMON has an open one

@@ -2,16 +2,14 @@
 ghost use Rattle.std.specs.Prelude.{◌≡◌, ◌++◌, [], IfOk, OnOk};
 ghost use Rattle.std.specs.Option.{option_map_or};
 ghost use Rattle.hep_machine.specs.Declarations as declarations;
-ghost use Rattle.hep_machine.specs.Words.{constant_value, spelling, value_among};
+ghost use Rattle.hep_machine.specs.Words.{spelling};
 ghost use Rattle.hep_dump.specs.CommonNames as words;
 
 use crate::elements::append_subscripts;
 use hep_base::Text;
-use hep_names::Symbols;
 use hep_names::specification::{add_declared, block_of, blocks_in};
+use hep_names::{Symbols, bounds_of, cells_of};
 use hep_source::{CommonBlock, Name, Statement};
-use hep_values::named_constants::constants;
-use hep_values::{Constants, bounds_of, cells_of};
 use std::alloc::{AllocError, Global};
 
 // The name of a block in lines. That of blank COMMON is empty.
@@ -74,16 +72,14 @@ fn names_under(alloc: Global, block: &[u8], unit: &[Statement]) -> Result<Vec<Na
 fn owner_among(
     alloc: Global,
     symbols: &Symbols,
-    constants: &Constants,
     names: &[Name],
     cell: u32,
 ) -> Result<Option<(Name, u32)>, AllocError>
-    requires { value_among constants.now ≡ constant_value symbols.now }
     ensures { IfOk result (λ owner. owner ≡ words.owner_among symbols.now names.now cell) }
 {
     let mut left = cell;
     for name in names {
-        let cells = cells_of(alloc, symbols, constants, name)?;
+        let cells = cells_of(alloc, symbols, name)?;
         if left < cells {
             return Ok(Some((*name, left)));
         }
@@ -96,15 +92,18 @@ fn owner_among(
 fn element_text(
     alloc: Global,
     symbols: &Symbols,
-    constants: &Constants,
     name: &Name,
     before: u32,
 ) -> Result<Text, AllocError>
-    requires { value_among constants.now ≡ constant_value symbols.now }
     ensures { IfOk result (λ text. text ≡ words.element_text symbols.now name.now before) }
 {
     let mut text = name.spelling(alloc)?.into_vec();
-    if let Some(bounds) = bounds_of(alloc, symbols, constants, symbols.dimensions(name))? {
+    if let Some(bounds) = bounds_of(
+        alloc,
+        symbols,
+        symbols.constants(),
+        symbols.dimensions(name),
+    )? {
         append_subscripts(&mut text, &bounds, before)?;
     }
     Ok(Text::from(text))
@@ -125,12 +124,11 @@ pub fn own_name(
     ensures { IfOk result (λ name. name ≡ words.own_name unit.now block.now position) }
 {
     let symbols = Symbols::new(alloc, unit)?;
-    let constants = constants(alloc, &symbols)?;
     let names = names_under(alloc, block, unit)?;
     let cell = position.saturating_sub(1);
-    match owner_among(alloc, &symbols, &constants, &names, cell)? {
+    match owner_among(alloc, &symbols, &names, cell)? {
         Some((name, before)) => {
-            let text = element_text(alloc, &symbols, &constants, &name, before)?;
+            let text = element_text(alloc, &symbols, &name, before)?;
             Ok(Some(text))
         }
         None => Ok(None),

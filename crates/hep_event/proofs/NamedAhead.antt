@@ -2,9 +2,7 @@
 use Rattle.std.proofs.Common.{◌≡◌, ◌≢◌, ℕ, false, List, [], Option, Some, None, refl, sym, ap, ◌∙◌, subst}
 use Rattle.std.specs.Option.{option_map}
 use Rattle.hep_machine.specs.Evaluation.{reading}
-use Rattle.hep_machine.specs.Words.{Action, Name, Next, Redex, Reference, Statement, Units, Value, does, evaluating, function_name, referring, signing, negating, combining, applying, testing, wants}
-use Rattle.hep_machine.specs.Words.{assigning, jumping, choosing, branching, testing_condition, entering_block, entering_loop, ending_loop, calling, creating, purging, printing, continuing, leaving, resuming, stopping}
-use Rattle.hep_machine.specs.Control.{variable_of as loop_variable}
+use Rattle.hep_machine.specs.Words.{Action, Name, Next, Redex, Reference, Statement, Units, Value, does, evaluating, function_name, referring, signing, negating, combining, applying, testing, wants, variable_of as loop_variable, assigning, jumping, choosing, branching, testing_condition, entering_block, entering_loop, ending_loop, calling, creating, purging, printing, continuing, leaving, resuming, stopping}
 use Rattle.hep_code.specs.declared.instruction.Operation.TheVariants.{Answer}
 use Rattle.hep_code.specs.declared.instruction.Operation.{Operation}
 use Rattle.hep_code.specs.declared.variable.Variable.{Variable}

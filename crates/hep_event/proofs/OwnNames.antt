@@ -1,5 +1,5 @@
 -- What is no dummy argument goes by its own name, or stands in COMMON.
-use Rattle.std.proofs.Common.{◌≡◌, ℕ, true, false, true≢false, List, [], Option, Some, None, Result, Ok, Err, refl, sym, ap, ◌∙◌, subst}
+use Rattle.std.proofs.Common.{◌≡◌, ℕ, true, false, true≢false, List, Option, Some, None, Result, Ok, Err, refl, sym, ap, ◌∙◌, subst}
 use Rattle.std.specs.Str.{bytes_eq}
 use Rattle.std.specs.Option.{unwrap_or}
 use Rattle.hep_image.proofs.NamedNumbers.{array-listed, at-index, by-kind}
@@ -8,8 +8,7 @@ use Rattle.hep_image.specs.declared.array.Start.TheVariants.{Dummy, Local}
 use Rattle.hep_image.specs.Places.{array_of, arrays_of, start_of, variable_of}
 use Rattle.hep_layout.specs.Words.{argument, first_of_part}
 use Rattle.hep_machine.specs.declared.event.Kind.{Kind}
-use Rattle.hep_machine.specs.Locations.{Scope, element_of, location_in, own_storage, start_by_block, storage_by_dummy}
-use Rattle.hep_machine.specs.Words.{BlockName, Name, Statement, Units, Value, common_block, dummies_of, index_among, location_of_name, spelling, unit_at}
+use Rattle.hep_machine.specs.Words.{BlockName, Name, Statement, Units, Value, common_block, dummies_of, index_among, location_of_name, spelling, unit_at, Scope, element_of, location_in, own_storage, start_by_block, storage_by_dummy}
 use Rattle.hep_step.specs.Simulation.{unit_arrays}
 use Rattle.hep_event.specs.AccessedNames.{is_name, name_at}
 use Rattle.hep_event.specs.VariableBreakpoints.{is_dummy, is_passed, starts_as_dummy}

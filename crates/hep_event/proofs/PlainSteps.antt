@@ -5,11 +5,8 @@ use Rattle.std.specs.Option.{option_map}
 use Rattle.std.proofs.Math.Seq.{drop-append_seam}
 use Rattle.hep_code.specs.declared.instruction.Instruction.{Instruction}
 use Rattle.hep_code.specs.declared.instruction.Operation.{Operation}
-use Rattle.hep_code.specs.NextInCode.{IsAction, IsNext}
-use Rattle.hep_code.specs.StatementCode.{ending_of}
-use Rattle.hep_code.specs.Words.{Addresses, AddressedUnit, addressed_unit, arity, evaluation_of, operands_of_action, operands_of_redex, operation_of}
-use Rattle.hep_machine.specs.Words.{Action, Name, Next, Process, State, Top, Units, Value, function_name, living, next_of, step_result_of, stepped, unit_of, unit_on_top, wants, does, evaluating, referring}
-use Rattle.hep_machine.specs.Words.{assigning, jumping, choosing, branching, testing_condition, entering_block, entering_loop, ending_loop, calling, creating, purging, printing, continuing, leaving, resuming, stopping}
+use Rattle.hep_code.specs.Words.{Addresses, AddressedUnit, addressed_unit, arity, evaluation_of, operands_of_action, operands_of_redex, operation_of, IsAction, IsNext, ending_of}
+use Rattle.hep_machine.specs.Words.{Action, Name, Next, Process, State, Top, Units, Value, function_name, living, next_of, step_result_of, stepped, unit_of, unit_on_top, wants, does, evaluating, referring, assigning, jumping, choosing, branching, testing_condition, entering_block, entering_loop, ending_loop, calling, creating, purging, printing, continuing, leaving, resuming, stopping}
 use Rattle.hep_event.specs.StepTexts.{deed_text, fault_added, leaving_text, next_text, resuming_text, step_text}
 use Rattle.hep_event.specs.LineTexts as lines
 use Rattle.hep_event.specs.declared.plain_text.NextNumbers.{NextNumbers}

@@ -5,12 +5,9 @@ use Rattle.hep_code.specs.declared.instruction.Instruction.{Instruction}
 use Rattle.hep_code.specs.declared.instruction.Operation.{Operation}
 use Rattle.hep_code.specs.declared.instruction.Operation.TheVariants.{Evaluate}
 use Rattle.hep_code.specs.declared.variable.Variable.{Variable}
-use Rattle.hep_code.specs.NextInCode.{IsAction, IsNext, IsRedex}
-use Rattle.hep_code.specs.StatementCode.{ending_of}
-use Rattle.hep_code.specs.Words.{Addresses, AddressedUnit, addressed_unit, evaluation_of, operands_of_action, operands_of_redex, operation_of}
+use Rattle.hep_code.specs.Words.{Addresses, AddressedUnit, addressed_unit, evaluation_of, operands_of_action, operands_of_redex, operation_of, IsAction, IsNext, IsRedex, ending_of}
 use Rattle.hep_machine.specs.Evaluation.{reading}
-use Rattle.hep_machine.specs.Words.{Action, Name, Next, Process, Redex, State, Top, Units, Value, function_name, living, next_of, step_result_of, stepped, unit_of, unit_on_top, wants, does, evaluating, referring}
-use Rattle.hep_machine.specs.Words.{signing, negating, combining, applying, testing, assigning, jumping, choosing, branching, testing_condition, entering_block, entering_loop, ending_loop, calling, creating, purging, printing, continuing, leaving, resuming, stopping}
+use Rattle.hep_machine.specs.Words.{Action, Name, Next, Process, Redex, State, Top, Units, Value, function_name, living, next_of, step_result_of, stepped, unit_of, unit_on_top, wants, does, evaluating, referring, signing, negating, combining, applying, testing, assigning, jumping, choosing, branching, testing_condition, entering_block, entering_loop, ending_loop, calling, creating, purging, printing, continuing, leaving, resuming, stopping}
 use Rattle.hep_event.specs.StepTexts.{deed_text, fault_added, leaving_text, next_text, resuming_text, step_text, told_of}
 use Rattle.hep_event.specs.LineTexts as lines
 use Rattle.hep_event.specs.declared.plain_text.NextNumbers.{NextNumbers}

@@ -1,11 +1,9 @@
 -- Where the top activation of a process stands, by what a core keeps, and that the operation that comes next can be looked at.
 use Rattle.std.proofs.Common.{◌≡◌, ℕ, ◌+◌, ◌<◌, ◌≤◌, false, List, [], ◌∷◌, drop, length, Some, sym, ap, ◌∙◌, subst, arith}
-use Rattle.hep_machine.specs.Words.{Process, Units, living, numbered, run, top_of}
-use Rattle.hep_machine.specs.State.{Level as SourceLevel}
+use Rattle.hep_machine.specs.Words.{Process, Units, living, numbered, run, top_of, Level as SourceLevel, unit_at}
 use Rattle.hep_code.proofs.OperandCounts.{room_for}
 use Rattle.hep_code.specs.Words.{deepest, values_ahead}
 use Rattle.hep_image.specs.Arrays.{ArePlacedArrays}
-use Rattle.hep_machine.specs.Words.{unit_at}
 use Rattle.hep_proc.specs.Nodes.{nodes_of}
 use Rattle.hep_proc.specs.Stacks.{stack_with}
 use Rattle.hep_step.specs.Cells.{HasFrame}

@@ -10,12 +10,10 @@ use Rattle.hep_code.specs.declared.instruction.Instruction.TheVariants.{Push, St
 use Rattle.hep_code.specs.declared.instruction.Operation.{Operation}
 use Rattle.hep_code.specs.declared.variable.Variable.{Variable}
 use Rattle.hep_code.specs.declared.variable.Variable.TheVariants.{Absent}
-use Rattle.hep_code.specs.NextInCode.{IsAction, IsNext}
-use Rattle.hep_code.specs.Words.{AddressedUnit, Stands, code_of}
+use Rattle.hep_code.specs.Words.{AddressedUnit, Stands, code_of, IsAction, IsNext}
 use Rattle.hep_image.specs.Places.{variable_of}
 use Rattle.hep_machine.specs.Evaluation.{reading}
-use Rattle.hep_machine.specs.Control.{variable_of as loop_variable}
-use Rattle.hep_machine.specs.Words.{Action, Name, Next, Redex, Reference, Statement, Top, Units, Value, Work, spelling, unit_of, unit_on_top, wants, does, evaluating, referring, testing, assigning, entering_loop, ending_loop, purging}
+use Rattle.hep_machine.specs.Words.{Action, Name, Next, Redex, Reference, Statement, Top, Units, Value, Work, spelling, unit_of, unit_on_top, wants, does, evaluating, referring, testing, assigning, entering_loop, ending_loop, purging, variable_of as loop_variable}
 use Rattle.hep_step.specs.Simulation.{unit_addressed, unit_arrays}
 use Rattle.hep_event.specs.AccessedNames.{has_name, references_of}
 use Rattle.hep_event.specs.VariableBreakpoints.{IsWatchedAhead, IsWatchedBy, IsWatchedVariable, is_dummy}

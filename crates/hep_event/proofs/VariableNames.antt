@@ -2,8 +2,7 @@
 use Rattle.std.proofs.Common.{◌≡◌, ◌≢◌, ℕ, ◌+◌, ◌<◌, Bool, true, false, List, [], Option, Some, None, refl, sym, ap, ◌∙◌, subst, arith, if◌then◌else◌, slice_get}
 use Rattle.std.specs.Option.{unwrap_or}
 use Rattle.std.proofs.lemmas.Option.{same_Some, none-some}
-use Rattle.hep_machine.specs.Words.{BlockName, Name, Statement, Units, blocks_of_unit, cells_of, common_block, dummies_of, index_among, is_among, is_array, locals_of, same_block, same_name}
-use Rattle.hep_machine.specs.Constants.{cells_of_shape, constant_value, shape_by}
+use Rattle.hep_machine.specs.Words.{BlockName, Name, Statement, Units, blocks_of_unit, cells_of, common_block, dummies_of, index_among, is_among, is_array, locals_of, same_block, same_name, cells_of_shape, constant_value, shape_by}
 use Rattle.hep_machine.proofs.Locations.{equal_blocks}
 use Rattle.hep_source.proofs.NameTests.{equal_names}
 use Rattle.hep_layout.specs.Words.{FramePart, Row, argument, variable, block_row, common_row, first_in, first_in_common, first_of_block, first_of_part, frame_row, owner_in, same_part, size_in}

@@ -3,8 +3,7 @@ use Rattle.std.specs.Prelude.{◌≡◌, ◌+◌, false, nat_eq, length, map, So
 use Rattle.hep_code.specs.declared.variable.Variable.{Variable}
 use Rattle.hep_code.specs.Words.{is_asynchronous}
 use Rattle.hep_machine.specs.Evaluation.{reading}
-use Rattle.hep_machine.specs.Words.{Action, Name, Next, Redex, Reference, State, Top, Units, answer_of, function_name, function_unit, spelling, testing, unit_at, unit_called, unit_name, unit_on_top, variable_of, wants, does, evaluating, referring}
-use Rattle.hep_machine.specs.Words.{assigning, jumping, entering_loop, ending_loop, calling, creating, purging, printing, continuing, leaving}
+use Rattle.hep_machine.specs.Words.{Action, Name, Next, Redex, Reference, State, Top, Units, answer_of, function_name, function_unit, spelling, testing, unit_at, unit_called, unit_name, unit_on_top, variable_of, wants, does, evaluating, referring, assigning, jumping, entering_loop, ending_loop, calling, creating, purging, printing, continuing, leaving}
 use Rattle.hep_output.specs.Records.{items_text}
 use Rattle.hep_event.specs.StepTexts.{line_after, own_reference, own_scope, place_of, value_given, value_in}
 use Rattle.hep_event.specs.LineTexts.{references_text}

@@ -1,13 +1,10 @@
 -- What a step does, in words, by a program and the states before and after it: docs/RUNS.md, "What each step did".
-use Rattle.std.specs.Prelude.{ℕ, ◌+◌, nat_eq, Bool, false, ◌&&◌, if◌then◌else◌, List, [], ◌∷◌, ◌++◌, length, map, Option, Some, None, Result, Ok, Err}
+use Rattle.std.specs.Prelude.{ℕ, ◌+◌, nat_eq, Bool, false, ◌&&◌, if◌then◌else◌, List, [], ◌∷◌, length, map, Option, Some, None, Result, Ok, Err}
 use Rattle.hep_machine.specs.declared.event.Fault.{Fault}
 use Rattle.hep_machine.specs.declared.event.Kind.{Kind}
 use Rattle.hep_machine.specs.Evaluation.{reading}
 use Rattle.hep_machine.specs.Step.{gives, waits}
-use Rattle.hep_machine.specs.Words.{Name, spelling, same_name, Units, Value, function_name, Level, Location, line_at, living, local, common, Reference, Process, Scope, State, Store, StepResult, stepped, waiting, absent, Wanted, Top}
-use Rattle.hep_machine.specs.Words.{Answer, answer_of, fails, location_of_name, next_activation, next_of, scope_of, function_unit, unit_at, unit_called, unit_name, unit_of, unit_on_top, variable_of}
-use Rattle.hep_machine.specs.Words.{Redex, signing, negating, combining, applying, testing, RedexOrReference, evaluating, referring, Next, wants, does}
-use Rattle.hep_machine.specs.Words.{Action, assigning, jumping, choosing, branching, testing_condition, entering_block, entering_loop, ending_loop, calling, creating, purging, printing, continuing, leaving, resuming, stopping}
+use Rattle.hep_machine.specs.Words.{Name, spelling, same_name, Units, Value, function_name, Level, Location, line_at, living, local, common, Reference, Process, Scope, State, Store, StepResult, stepped, waiting, absent, Top, Answer, answer_of, fails, location_of_name, next_activation, next_of, scope_of, function_unit, unit_at, unit_called, unit_name, unit_of, unit_on_top, variable_of, Redex, signing, negating, combining, applying, testing, RedexOrReference, evaluating, referring, Next, wants, does, Action, assigning, jumping, choosing, branching, testing_condition, entering_block, entering_loop, ending_loop, calling, creating, purging, printing, continuing, leaving, resuming, stopping}
 use Rattle.hep_dump.specs.Faults.{kind_text}
 use Rattle.hep_state_text.specs.States as states
 use Rattle.hep_event.specs.LineTexts as lines

@@ -1,5 +1,5 @@
 -- The lines of a history's steps, by a program: docs/RUNS.md, "What each step did".
-use Rattle.std.specs.Prelude.{ℕ, zero, suc, ◌+◌, Bool, true, false, not, nat_eq, nat_le, ◌&&◌, if◌then◌else◌, List, [], ◌∷◌, ◌++◌, codes, length, Option, Some, None}
+use Rattle.std.specs.Prelude.{ℕ, zero, suc, ◌+◌, Bool, true, not, nat_eq, nat_le, ◌&&◌, if◌then◌else◌, List, [], ◌∷◌, ◌++◌, codes, length, Option, Some, None}
 use Rattle.std.specs.List.{filter}
 use Rattle.hep_machine.specs.declared.event.Entry.{Entry}
 use Rattle.hep_machine.specs.Words.{Units, line_at, unit_name, unit_on_top, Level, Process, State, Top, is_held, is_number_among, living, opening, Progress, progress_after_entry, progress_after_step, state_after_turn, step_result_of}

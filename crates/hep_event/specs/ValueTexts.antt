@@ -1,5 +1,5 @@
 -- Values, names with subscripts, operators and functions, as Fortran writes them: docs/RUNS.md, "What each step did".
-use Rattle.std.specs.Prelude.{ℕ, Bool, true, false, List, [], ◌∷◌, ◌++◌, codes, Some}
+use Rattle.std.specs.Prelude.{ℕ, List, [], ◌∷◌, ◌++◌, codes, Some}
 use Rattle.hep_source.specs.declared.function.PureFunction.{PureFunction}
 use Rattle.hep_source.specs.declared.function.PureFunction.TheVariants.{AbsoluteValue, Remainder, TransferOfSign, PositiveDifference, Largest, Smallest}
 use Rattle.hep_source.specs.declared.function.StateFunction.{StateFunction}

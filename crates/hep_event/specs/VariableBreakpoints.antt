@@ -1,5 +1,5 @@
 -- The indexes of the code from which a step may access a variable of one name: docs/RUNS.md, "What each step did".
-use Rattle.std.specs.Prelude.{◌≡◌, ℕ, ◌<◌, Bool, true, false, ◌||◌, List, [], ◌∷◌, drop, length, Option, Some, None, slice_get}
+use Rattle.std.specs.Prelude.{◌≡◌, ℕ, ◌<◌, Bool, true, false, ◌||◌, List, ◌∷◌, drop, length, Option, Some, None, slice_get}
 use Rattle.std.specs.Str.{bytes_eq}
 use Rattle.hep_code.specs.declared.instruction.Evaluation.TheVariants.{Load, Test}
 use Rattle.hep_code.specs.declared.instruction.Instruction.{Instruction}

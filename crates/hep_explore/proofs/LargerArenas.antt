@@ -4,10 +4,9 @@ use Rattle.std.proofs.Common.{Option, Some, None, IsSome, is_some, refl, sym, ap
 use Rattle.std.specs.Option.{option_map}
 use Rattle.std.proofs.lemmas.Bool.{le-leb, leb-true}
 use Rattle.std.proofs.lemmas.Option.{none-some}
-use Rattle.hep_machine.specs.Words.{Layout, State, Units, common_cells, is_held, layout_of, opening, opening_layout}
+use Rattle.hep_machine.specs.Words.{Layout, State, Units, common_cells, is_held, layout_of, opening, opening_layout, with_frame, with_new}
 use Rattle.hep_machine.specs.Words.{state_after_turn}
 use Rattle.hep_machine.specs.Layout.{frame_of, layout_after_step, layout_with_activation, lowest_gap, placing_from, remaining_layout}
-use Rattle.hep_machine.specs.Layout.{with_frame, with_new}
 use Rattle.hep_explore.specs.Endings.{Ending, IsEndingWithin}
 
 -- what a mapped option was

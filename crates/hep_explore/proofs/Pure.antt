@@ -6,15 +6,13 @@ use Rattle.std.specs.Result.{result_ok}
 use Rattle.std.proofs.lemmas.Option.{none-some, same_Some}
 use Rattle.hep_machine.specs.declared.event.Kind.{Kind}
 use Rattle.hep_machine.specs.Words.{Action, IsOnStack, Level, Next, Process, RedexOrReference, State, Store, Top, Units, Value, answer_of}
-use Rattle.hep_machine.specs.Words.{continuing, does, evaluating, jumping, choosing, branching, testing_condition, entering_block, wants}
-use Rattle.hep_machine.specs.Words.{referring, activations_on, is_number_among, living, next_of, no_activation, numbered}
-use Rattle.hep_machine.specs.Words.{result_after_action, result_after_answer, result_after_next, scope_of, step, step_result_of}
-use Rattle.hep_machine.specs.Words.{step_result_of_top, stepped, top_of, unit_at, unit_of, unit_on_top, with_process, IsSameOrOneMore}
+use Rattle.hep_machine.specs.Words.{continuing, combined_value, function_value, negated_value, signed_value, process_views_from, Scope}
+use Rattle.hep_machine.specs.Words.{Redex, applying, combining, negating, plug_work, signing, does, evaluating, jumping, choosing}
+use Rattle.hep_machine.specs.Words.{branching, testing_condition, entering_block, wants, referring, activations_on, is_number_among, living}
+use Rattle.hep_machine.specs.Words.{next_of, no_activation, numbered, result_after_action, result_after_answer, result_after_next, scope_of}
+use Rattle.hep_machine.specs.Words.{step, step_result_of, step_result_of_top, stepped, top_of, unit_at, unit_of, unit_on_top, with_process}
+use Rattle.hep_machine.specs.Words.{IsSameOrOneMore}
 use Rattle.hep_machine.specs.Step.{gives, by_result, result_after_sought, state_with_level}
-use Rattle.hep_machine.specs.Arithmetic.{combined_value, function_value, negated_value, signed_value}
-use Rattle.hep_machine.specs.Views.{process_views_from}
-use Rattle.hep_machine.specs.Locations.{Scope}
-use Rattle.hep_machine.specs.Evaluation.{Redex, applying, combining, negating, plug_work, signing}
 use Rattle.hep_machine.proofs.Ages.{IsAged, aged, on_stack_made}
 use Rattle.hep_machine.proofs.Others.{activations_after, front_numbered, others_stay, step-is}
 use Rattle.hep_source.proofs.Tests.{number-self}

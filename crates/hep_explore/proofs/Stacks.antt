@@ -1,7 +1,6 @@
 -- A step of one process is the same wherever another process is; and a process that lives makes a step or waits.
-use Rattle.std.proofs.Common.{◌≡◌, ◌≢◌, ℕ, zero, suc, ◌-◌, ◌<◌, ◌≤◌, Bool, true, false, if◌then◌else◌, List, [], ◌∷◌, ◌++◌, length}
+use Rattle.std.proofs.Common.{◌≡◌, ◌≢◌, ℕ, zero, suc, ◌-◌, ◌<◌, ◌≤◌, Bool, true, false, if◌then◌else◌, List, [], ◌∷◌, ◌++◌, length, is_some}
 use Rattle.std.proofs.Common.{length-set, Option, Some, None, Result, Ok, Err, refl, sym, ap, ◌∙◌, arith, slice_set, ℤ, ◌-ℤ◌, ◌+ℤ◌, pos}
-use Rattle.std.proofs.Common.{is_some}
 use Rattle.std.specs.Option.{option_map}
 use Rattle.hep_machine.specs.declared.event.Kind.{Kind}
 use Rattle.hep_machine.specs.Words.{Action, Binding, Level, Location, Loop, Name, Next, Process, State, Store, StepResult, RedexOrReference}

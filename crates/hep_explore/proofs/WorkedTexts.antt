@@ -1,5 +1,5 @@
 -- Worked texts of searches.
-use Rattle.std.proofs.Common.{◌≡◌, ℕ, true, false, List, [], ◌∷◌, ◌++◌, codes, refl}
+use Rattle.std.proofs.Common.{◌≡◌, true, false, [], ◌∷◌, ◌++◌, codes, refl}
 use Rattle.std.specs.Fmt.{digits}
 use Rattle.hep_explore.specs.Explored.{Found, deadlock_text, explored_text, has_waiting_line}
 

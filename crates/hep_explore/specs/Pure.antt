@@ -7,13 +7,12 @@ use Rattle.hep_code.specs.declared.instruction.Evaluation.TheVariants.{Apply, Co
 use Rattle.hep_code.specs.declared.instruction.Operation.{Operation}
 use Rattle.hep_code.specs.declared.instruction.Operation.TheVariants.{Branch, BySign, Choose, Condition, Evaluate, Jump}
 use Rattle.hep_code.specs.Words.{arity, first_operand, second_operand}
-use Rattle.hep_machine.specs.Words.{Level, Process, Statement, State, Units, Value, integer_of, logical_of, living, unit_at, unit_of}
+use Rattle.hep_machine.specs.Words.{Level, Process, Statement, State, Units, Value, integer_of, logical_of, living, unit_at, unit_of, wants}
 use Rattle.hep_machine.specs.Arithmetic.{combined_value, function_value, negated_value, signed_value}
 use Rattle.hep_machine.specs.Control.{label_by_sign, label_chosen, level_after_condition, level_after_statement, level_at_choice}
 use Rattle.hep_machine.specs.Control.{level_at_label, level_in_block}
 use Rattle.hep_machine.specs.Evaluation.{Action, Next, Redex, RedexOrReference, applying, branching, choosing, combining, continuing, does}
 use Rattle.hep_machine.specs.Evaluation.{entering_block, evaluating, jumping, negating, next_of, plug_work, signing, testing_condition}
-use Rattle.hep_machine.specs.Evaluation.{wants}
 
 -- the value of an operator or of a function of integers, unless it is a fault
 abbrev pub pure_value : Redex → Option Value

@@ -1,11 +1,11 @@
 -- What a refusal says of the parts of a program.
-use Rattle.std.proofs.Common.{◌≡◌, ◌⊎◌, inl, inr, ℕ, ◌<◌, ◌≤◌, ◌*◌, ◌∙◌, sym, arith, length, Some, Result, Ok, Err, IfErr}
+use Rattle.std.proofs.Common.{◌≡◌, ◌⊎◌, inl, inr, ℕ, ◌<◌, ◌≤◌, ◌*◌, arith, length, Some, Result, Ok, Err, IfErr}
 use Rattle.hep_base.specs.declared.refusal.Refusal.{Refusal as LowerFault}
 use Rattle.hep_base.specs.declared.refusal.Refusal.TheVariants.{NoMemory, Refused}
 use Rattle.hep_machine.specs.Words.{Units}
 use Rattle.hep_lower.specs.Counts.{IsByCount, IsLongLine, IsManyParts}
 use Rattle.hep_lower.specs.PartCounts.{IsOfLongStatement, parts_of}
-use Rattle.hep_lower.specs.Refusals.{AreCellsBeyond, IsCodeBeyond, IsFirstDeep, IsUnlowered, Refuses, instructions_in}
+use Rattle.hep_lower.specs.Refusals.{IsFirstDeep, IsUnlowered, Refuses, instructions_in}
 
 other-number : (n a b : ℕ) → n ≡ a → n ≡ b → a < b ⊎ b < a → ⊥
 other-number n a b is isn't (inl less) = absurd (omega (arith, is, isn't, less))

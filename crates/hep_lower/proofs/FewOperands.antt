@@ -16,7 +16,7 @@ use Rattle.hep_code.specs.declared.instruction.Instruction.TheVariants.{Push, St
 use Rattle.hep_code.specs.declared.instruction.Operation.{Operation}
 use Rattle.hep_code.specs.declared.instruction.Operation.TheVariants.{Store, Choose, BySign, Condition, Branch, EnterLoop, Call, Create, Purge, Print, Refer}
 use Rattle.hep_code.specs.declared.variable.Variable.{Variable}
-use Rattle.hep_code.specs.Words.{actuals_code_in, ending_of, passes, arity, operands_passed, operands_shown, operands_of_entry, operands_of_entries, operands_by, operands_before, operands_ahead, line_ahead, line_too_deep, count, evaluating, name_code, asked, asked_listed, asked_listed_code, listed_code, tree_code, trees_code, asked_code, actual_name_code, actual_listed_code, actual_code, actuals_code, argument_of, argument_of_name, argument_of_listed, argument_of_target, target_code, item_code, printed_of, control_code, most_operands, addressed_unit, operands_code, operation_code, conditions_code, loop_end_code, statement_code, statements_code, NameTable, Table, AddressedUnit, code_of, table_of, form_code}
+use Rattle.hep_code.specs.Words.{actuals_code_in, ending_of, passes, arity, operands_passed, operands_shown, operands_of_entry, operands_of_entries, operands_by, operands_ahead, line_ahead, line_too_deep, count, evaluating, name_code, asked, asked_listed, asked_listed_code, listed_code, tree_code, trees_code, asked_code, actual_name_code, actual_listed_code, actual_code, actuals_code, argument_of, argument_of_name, argument_of_listed, argument_of_target, target_code, item_code, printed_of, control_code, most_operands, addressed_unit, operands_code, operation_code, conditions_code, loop_end_code, statement_code, statements_code, NameTable, Table, AddressedUnit, code_of, table_of, form_code}
 use Rattle.hep_image.specs.Places.{addresses_of}
 use Rattle.hep_lower.specs.PartCounts.{HasLongStatement, IsOfLongStatement, in_tree, in_trees, in_list, in_optional, in_target, in_control, in_item, in_form, names_and_constants, labels_of_form, parts_of_statement, parts_of_unit, parts_of}
 use Rattle.hep_lower.specs.Refusals.{IsFirstDeep, IsCodeBeyond, instructions_in}
@@ -113,15 +113,6 @@ each_gives {line = line} f v w p h (x ∷ xs) =
 -- ---- lists
 
 module _ (operator : ℕ) where
-  pub some_part : (t : Tree) → 1 ≤ in_tree operator t
-  some_part (constant v) = omega arith
-  some_part (occurrence p) = omega arith
-  some_part (with_list p ts) = omega arith
-  some_part (parenthesized t) = some_part t
-  some_part (signed s t) = omega (arith, some_part t)
-  some_part (negated t) = omega (arith, some_part t)
-  some_part (binary o a b) = omega (arith, some_part a)
-
   list_is : (ts : List Tree) → in_trees operator (trees_of ts) ≡ in_list operator ts
   list_is [] = refl
   list_is (t ∷ ts) = omega (arith, list_is ts, sum_by-cons (in_tree operator) t ts)

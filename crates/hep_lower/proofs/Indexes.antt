@@ -3,7 +3,7 @@ use Rattle.std.proofs.Common.{◌≡◌, ℕ, zero, suc, ◌+◌, ◌-◌, ◌�
 use Rattle.std.proofs.lemmas.List.{length-map}
 use Rattle.hep_lower.proofs.Flows.{called_at_most, referred_at_most}
 use Rattle.std.specs.Option.{option_map, unwrap_or}
-use Rattle.hep_machine.specs.Words.{Name, Form, Statement, no_statement, Tree, Units, line_at, value_among, constant_value, terminal_of, listed_meaning, unit_called, function_name, function_unit}
+use Rattle.hep_machine.specs.Words.{Name, Form, Statement, no_statement, Tree, Units, line_at, constant_value, terminal_of, listed_meaning, unit_called, function_name, function_unit}
 use Rattle.hep_source.specs.declared.statement.Form.TheVariants as form
 use Rattle.hep_code.specs.declared.instruction.Instruction.TheVariants.{Step, To}
 use Rattle.hep_code.specs.declared.instruction.Operation.TheVariants.{Condition}
@@ -49,21 +49,21 @@ reference-is : (program : Units) → length program ≤ greatest → (x : Name) 
 unfolding number_referred
 reference-is program few x = rw (le-leb (function_unit program x) greatest (omega (arith, referred_at_most program x, few))) refl
 
-names-are : (n : NameLookup) → value_among n.constants.now ≡ constant_value n.symbols.now → length n.program.now ≤ greatest → names_in n ≡ names_of (addressed_in n)
+names-are : (n : NameLookup) → length n.program.now ≤ greatest → names_in n ≡ names_of (addressed_in n)
 unfolding names_in
-names-are n e few = λ i.
+names-are n few = λ i.
     record {
-      constants = e i;
+      constants = constant_value n.symbols.now;
       meanings = listed_meaning n.symbols.now;
       variables = variable_in n.places.now;
       functions = λ x. reference-is n.program.now few x i;
     }
 
-pub table-is : (t : Tables) (index : Target → ℕ) → t.control.now ≡ t.names.symbols.now → value_among t.names.constants.now ≡ constant_value t.names.symbols.now → length t.names.program.now ≤ greatest
+pub table-is : (t : Tables) (index : Target → ℕ) → t.control.now ≡ t.names.symbols.now → length t.names.program.now ≤ greatest
     → ((target : Target) → index_in t.starts target ≡ index target) → table_in t ≡ table_by (addressed_in t.names) index
-table-is t index same known few indexes = λ i.
+table-is t index same few indexes = λ i.
     record {
-      names = names-are t.names known few i;
+      names = names-are t.names few i;
       subroutines = λ x. number-is t.names.program.now few x i;
       result = option_map (variable_in t.names.places.now) (function_name (same i));
       labels = λ l. indexes (labelled (same i) l) i;
@@ -117,7 +117,6 @@ module _ (addressed : AddressedUnit) (f g : Target → ℕ) where
 -- the tables are those of one unit, a number of 32 bits counts the units of the program, and no index is known yet
 pub record AreBlank (t : Tables) : Type 0 where
   pub unit : t.control.now ≡ t.names.symbols.now
-  pub constants : value_among t.names.constants.now ≡ constant_value t.names.symbols.now
   pub few_units : length t.names.program.now ≤ greatest
   pub statements : t.starts.statements.items ≡ []
   pub end : t.starts.end ≡ 0
@@ -127,7 +126,7 @@ module _ (t : Tables) (h : AreBlank t) where
   whole = addressed_in t.names
 
   blank-is : table_in t ≡ unplaced whole
-  blank-is = table-is t (λ target. 0) h.unit h.constants h.few_units (nowhere-is t.starts h.statements h.end)
+  blank-is = table-is t (λ target. 0) h.unit h.few_units (nowhere-is t.starts h.statements h.end)
 
   pub blank-long : length (statements_code (table_in t) 0 t.control.now) ≡ length (code_of whole)
   unfolding code_of
@@ -155,5 +154,5 @@ module _ (t : Tables) (h : AreBlank t) (found : Starts)
   unfolding code_of
   found-code =
       let whole = addressed_in t.names in
-      let placed = table-is by-found (index_of whole) h.unit h.constants h.few_units (index-is whole found begins ends) in
+      let placed = table-is by-found (index_of whole) h.unit h.few_units (index-is whole found begins ends) in
       λ i. statements_code (placed i) 0 (h.unit i)

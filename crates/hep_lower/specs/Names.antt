@@ -1,6 +1,6 @@
 -- The names of a unit, by its tables.
 use Rattle.std.specs.Prelude.{ℕ, nat_le, if◌then◌else◌}
-use Rattle.hep_machine.specs.Words.{Name, Units, value_among, listed_meaning, unit_called, function_unit}
+use Rattle.hep_machine.specs.Words.{Name, Units, constant_value, listed_meaning, unit_called, function_unit}
 use Rattle.hep_code.specs.Words.{NameTable}
 use Rattle.hep_code.specs.Placements.{variable_in}
 use Rattle.hep_lower.specs.declared.name_lookup.NameLookup.{NameLookup}
@@ -25,7 +25,7 @@ number_referred program x = narrowed (function_unit program x)
 unfoldable pub names_in : NameLookup → NameTable
 names_in n =
     record {
-      constants = value_among n.constants.now;
+      constants = constant_value n.symbols.now;
       meanings = listed_meaning n.symbols.now;
       variables = variable_in n.places.now;
       functions = number_referred n.program.now;

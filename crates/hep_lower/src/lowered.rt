@@ -12,7 +12,6 @@ use hep_code::{Depth, Instruction, Placement, depth_of};
 use hep_control::control::Control;
 use hep_control::labels::Labels;
 use hep_names::{ProgramSymbols, Symbols};
-use hep_values::named_constants::constants;
 use std::alloc::Global;
 
 /// The code of a unit, the index at which an activation of it begins, and its deepest stack of operands.
@@ -44,10 +43,8 @@ pub fn lower_unit(
     ensures refused { IfErr result (IsOverLimit (length (code_of (addressed_by symbols.now places.now program.now)))) }
 {
     let control = Control::new(alloc, Labels::new(alloc, symbols.statements())?)?;
-    let constants = constants(alloc, symbols)?;
     let names = NameLookup {
         symbols,
-        constants: &constants,
         places,
         program,
     };

@@ -7,14 +7,11 @@ ghost use Rattle.hep_lower.specs.Names.{names_in};
 use hep_code::{Placement, Variable};
 use hep_names::{Meaning, ProgramSymbols, Symbols};
 use hep_source::{Name, Value};
-use hep_values::Constants;
 
 /// The tables of a unit by which its names are looked up.
 #[derive(Clone, Copy)]
 pub struct NameLookup<'a> {
     pub symbols: &'a Symbols<'a>,
-    /// The values of the unit's constants.
-    pub constants: &'a Constants,
     pub places: &'a Placement,
     /// The units of the program, which the unit may call and refer to.
     pub program: &'a ProgramSymbols<'a>,
@@ -36,7 +33,7 @@ impl<'a> NameLookup<'a> {
     pub fn constant(&self, name: &Name) -> Option<Value>
         ensures { result ≡ (names_in self.now).constants name.now }
     {
-        self.constants.get(name)
+        self.symbols.constants().get(name)
     }
 
     /// The meaning of a name with a list.

@@ -1,6 +1,5 @@
 //! The code of a unit.
 ghost use Rattle.std.specs.Prelude.{◌≡◌, ◌<◌, ◌≤◌, length, IfOk, IfErr};
-ghost use Rattle.hep_machine.specs.Words.{value_among, constant_value};
 ghost use Rattle.hep_source.specs.Units as units;
 ghost use Rattle.hep_code.specs.Words.{most_instructions, entry_index, statements_code, code_of};
 ghost use Rattle.hep_lower.specs.UnitLimits.{IsOverLimit};
@@ -98,7 +97,6 @@ pub fn emit_unit(
     control: &Control,
 ) -> Result<EmittedUnit, EmitFault>
     requires unit { control.now ≡ names.now.symbols.now }
-    requires constants { value_among names.now.constants.now ≡ constant_value names.now.symbols.now }
     requires few_units { length names.now.program.now ≤ greatest }
     ensures code { IfOk result (λ unit. unit.code.items ≡ code_of (addressed_in names.now)) }
     ensures entry { IfOk result (λ unit. unit.entry ≡ entry_index (addressed_in names.now)) }

@@ -9,3 +9,10 @@ pub mod Referenced
 pub mod Typed
 pub mod ArraysAmong
 pub mod News
+mod Tables
+mod Evaluations
+pub mod ConstantsInOrder
+mod BoundValues
+pub mod CellCounts
+pub mod Elements
+pub mod BlockNames

@@ -4,3 +4,5 @@ pub mod Functions
 pub mod Lists
 pub mod Meanings
 pub mod Parts
+pub mod Evaluation
+pub mod Bounds

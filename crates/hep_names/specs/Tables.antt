@@ -4,7 +4,7 @@ use Rattle.std.specs.Borrow.{Bor}
 use Rattle.std.specs.List.{filter, flat_map}
 use Rattle.std.specs.Option.{option_or}
 use Rattle.hep_source.specs.declared.statement.Form.TheVariants.{Function}
-use Rattle.hep_machine.specs.Words.{Declarator, Name, Occurrence, Form, Subroutine, Statement, same_name, is_among, index_among, Units, dummies_of, is_named, function_name, subroutine_called, function_called, is_external, listed_meaning, ValueType, names_of, locals_of, declared_type, implicit_type, common_block, is_constant_name, BlockName, names_declared, block_holding, blocks_in, entries_of_blocks, names_of_constants, is_nonempty, constants_in, declarator_among, declarators_in}
+use Rattle.hep_machine.specs.Words.{Declarator, Name, Occurrence, Form, Subroutine, Statement, same_name, is_among, index_among, Units, dummies_of, is_named, function_name, subroutine_called, function_called, is_external, listed_meaning, ValueType, names_of, locals_of, declared_type, implicit_type, common_block, is_constant_name, Value, constant_value, BlockName, names_declared, block_holding, blocks_in, entries_of_blocks, names_of_constants, is_nonempty, constants_in, declarator_among, declarators_in}
 
 abbrev pub either : Bool → Bool → Bool
 either a b = if a then true else b
@@ -83,14 +83,15 @@ dummies_in [] = []
 dummies_in (s ∷ ss) = dummies_by_form s.form
 
 -- The tables of a unit have for each name what its specification statements declare.
-pub record Describes (unit : List Statement) (types : Name → Option ValueType) (letters : List (Option ValueType)) (arrays : List Statement) (dummies : Name → Option ℕ) (blocks : Name → Option BlockName) (are_once : Bool) (constants : Name → Bool) (names locals : List Name) : Type 0 where
+pub record Describes (unit : List Statement) (types : Name → Option ValueType) (letters : List (Option ValueType)) (arrays : List Statement) (dummies : Name → Option ℕ) (blocks : Name → Option BlockName) (are_once : Bool) (constant_names : Name → Bool) (constants : Name → Option Value) (names locals : List Name) : Type 0 where
   pub typed : (x : Name) → types x ≡ declared_type x unit
   pub lettered : (c : ℕ) → c < 256 → get_or letters c None ≡ implicit_type c unit
   pub bounded : arrays ≡ unit
   pub numbered : (x : Name) → dummies x ≡ index_among x (dummies_of unit)
   pub common : (x : Name) → blocks x ≡ common_block unit x
   pub once : are_once ≡ are_new (λ x. false) (names_in_common unit)
-  pub constant : (x : Name) → constants x ≡ is_constant_name unit x
+  pub constant : (x : Name) → constant_names x ≡ is_constant_name unit x
+  pub valued : constants ≡ constant_value unit
   pub named : names ≡ names_of unit
   pub owned : locals ≡ locals_of unit
 

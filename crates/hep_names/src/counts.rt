@@ -10,6 +10,7 @@ ghost use Rattle.hep_names.specs.Lists.{listed};
 ghost use Rattle.hep_names.specs.Parts as passes;
 
 use crate::functions::Meaning;
+use crate::list_table::ListTable;
 use crate::lists::{NameWithList, names_with_lists};
 use crate::program::ProgramSymbols;
 use crate::symbols::Symbols;
@@ -41,11 +42,11 @@ fn takes_list(listed: Meaning, count: usize) -> bool
 
 /// Whether a function of the language has the right number of arguments. True for any other name with a list.
 #[tactic(auto, using(crate::proofs::Passes::count_is_length))]
-pub fn is_counted(symbols: &Symbols, name: &NameWithList) -> bool
-    ensures { result ≡ conditions.is_counted symbols.now (listed name.now) }
+pub fn is_counted(table: &ListTable, name: &NameWithList) -> bool
+    ensures { result ≡ conditions.is_counted table.now (listed name.now) }
 {
     takes_list(
-        symbols.listed_meaning(&name.occurrence.name),
+        table.listed_meaning(&name.occurrence.name),
         name.arguments.len(),
     )
 }
@@ -54,7 +55,7 @@ fn are_counted(symbols: &Symbols, names: &[NameWithList]) -> bool
     ensures { result ≡ list_all (conditions.is_counted symbols.now) (map listed names.now) }
 {
     for name in names {
-        if !is_counted(symbols, name) {
+        if !is_counted(symbols.listed(), name) {
             return false;
         }
     }

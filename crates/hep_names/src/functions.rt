@@ -4,7 +4,6 @@ ghost use Rattle.hep_source.specs.Names as names;
 ghost use Rattle.hep_machine.specs.Functions as functions;
 ghost use Rattle.hep_names.specs.Meanings.{meaning};
 
-use crate::symbols::Symbols;
 use hep_source::{Name, PureFunction, StateFunction};
 
 /// The meaning of a name with a list: an element of an array of the unit, a function of the language, or else a function of
@@ -85,18 +84,5 @@ pub fn function_named(name: &Name) -> Meaning
         (Some(function), _) => Meaning::Pure(function),
         (None, Some(function)) => Meaning::State(function),
         (None, None) => Meaning::External,
-    }
-}
-
-impl<'a> Symbols<'a> {
-    /// The meaning of a name with a list in the unit.
-    pub fn listed_meaning(&self, name: &Name) -> Meaning
-        ensures { meaning result ≡ functions.listed_meaning self.now name.now }
-    {
-        if self.is_array(name) {
-            Meaning::Element
-        } else {
-            function_named(name)
-        }
     }
 }

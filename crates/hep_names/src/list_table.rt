@@ -1,11 +1,10 @@
 //! The meanings of names with lists in a unit: its arrays, and the functions that it references (X3.9-1978, 5.1 and 15.5).
 ghost use Rattle.std.specs.Prelude.{◌≡◌, ◌&&◌, IfOk, OnOk};
 ghost use Rattle.indexmap.specs.IndexSet.{contains};
-ghost use Rattle.hep_source.specs.declared.name.Name.{Name as PureName};
 ghost use Rattle.hep_source.specs.Units as units;
 ghost use Rattle.hep_machine.specs.Declarations as declarations;
 ghost use Rattle.hep_machine.specs.Functions as functions;
-ghost use Rattle.hep_machine.specs.Words.{is_among, is_referenced, name_eq, names_listed_by};
+ghost use Rattle.hep_machine.specs.Words.{is_among, is_referenced, name_eq, names_listed_by, Name as PureName};
 ghost use Rattle.hep_names.specs.Meanings.{meaning};
 ghost use Rattle.hep_names.specs.Tables as tables;
 
@@ -20,7 +19,7 @@ use std::marker::Model;
 
 /// Tables of the arrays of a unit and of the functions that it references. Contracts see the
 /// statements of the unit.
-pub(crate) struct ListTable<'a> {
+pub struct ListTable<'a> {
     arrays: Arrays<'a>,
     referenced: NameSet,
 }
@@ -140,6 +139,13 @@ impl<'a> ListTable<'a> {
         ensures { result ≡ declarations.is_array self.now name.now }
     {
         self.arrays.is_array(name)
+    }
+
+    /// The meaning of a name with a list in the unit.
+    pub fn listed_meaning(&self, name: &Name) -> Meaning
+        ensures { meaning result ≡ functions.listed_meaning self.now name.now }
+    {
+        listed_meaning(&self.arrays, name)
     }
 
     // Whether the unit references the name as a function of the program, if there is one.

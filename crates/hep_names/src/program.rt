@@ -3,9 +3,8 @@ ghost use Rattle.std.specs.Prelude.{◌≡◌, IfOk, OnOk};
 ghost use Rattle.std.specs.Option.{option_or, option_map, option_copied};
 ghost use Rattle.indexmap.specs.IndexMap.{get};
 ghost use Rattle.hep_source.specs.Units as units;
-ghost use Rattle.hep_source.specs.declared.name.Name.{Name as PureName};
 ghost use Rattle.hep_names.specs.Tables as tables;
-ghost use Rattle.hep_machine.specs.Words.{name_eq};
+ghost use Rattle.hep_machine.specs.Words.{name_eq, Name as PureName};
 
 use crate::symbols::Symbols;
 use crate::table::{Table, note};

@@ -3,11 +3,16 @@ ghost use Rattle.std.specs.Prelude.{◌≡◌, false, IfOk};
 ghost use Rattle.hep_source.specs.Names as names;
 ghost use Rattle.hep_source.specs.Units as units;
 ghost use Rattle.hep_machine.specs.Declarations as declarations;
+ghost use Rattle.hep_machine.specs.Functions as functions;
 ghost use Rattle.hep_machine.specs.Variables as variables;
-ghost use Rattle.hep_machine.specs.Words.{is_referenced};
+ghost use Rattle.hep_machine.specs.Words.{is_referenced, value_among, constant_value};
+ghost use Rattle.hep_names.specs.Meanings.{meaning};
 ghost use Rattle.hep_names.specs.Tables as tables;
 
+use crate::constants::Constants;
+use crate::functions::Meaning;
 use crate::list_table::ListTable;
+use crate::named_constants::constants;
 use crate::names::{locals_among, names_of};
 use crate::specification::{
     CommonNames, common_names, constant_names, declared_types, dummy_positions, letter_types,
@@ -18,8 +23,8 @@ use indexmap::IndexSet;
 use std::alloc::{AllocError, Global};
 use std::marker::Model;
 
-/// The symbol table of a unit: the properties of names that its specification statements declare (X3.9-1978,
-/// section 8). Contracts see the statements of the unit.
+/// The symbol table of a unit: the properties of names that its specification statements declare, and the values of its
+/// constants (X3.9-1978, section 8). Contracts see the statements of the unit.
 pub struct Symbols<'a> {
     statements: &'a [Statement],
     types: Table<ValueType>,
@@ -28,7 +33,8 @@ pub struct Symbols<'a> {
     dummies: Table<usize>,
     blocks: Table<Option<Name>>,
     are_common_once: bool,
-    constants: NameSet,
+    constant_names: NameSet,
+    constants: Constants,
     names: NameSet,
     locals: Vec<Name>,
 }
@@ -43,6 +49,7 @@ impl<'a> Drop for Symbols<'a> {
             dummies,
             blocks,
             are_common_once,
+            constant_names,
             constants,
             names,
             locals,
@@ -58,6 +65,7 @@ impl<'a> Model for Symbols<'a> {
     ghost use Rattle.hep_source.specs.declared.statement.Statement.{Statement as PureStatement};
     ghost use Rattle.hep_source.specs.contracts.expression.Expr as expression;
     ghost use Rattle.hep_source.specs.Names.{name_eq};
+    ghost use Rattle.hep_machine.specs.Constants.{value_among};
     ghost use Rattle.hep_names.specs.Tables.{Describes};
 
     ghost Value = { List PureStatement };
@@ -67,7 +75,7 @@ impl<'a> Model for Symbols<'a> {
     ghost view = { λ a. a.statements.now };
 
     ghost invariant = { λ a. Describes a.statements.now (get name_eq a.types.map) a.letters.items a.listed (get name_eq a.dummies.map)
-        (get name_eq a.blocks.map) a.are_common_once (contains name_eq a.constants.set) a.names.set.keys a.locals.items };
+        (get name_eq a.blocks.map) a.are_common_once (contains name_eq a.constant_names.set) (value_among a.constants) a.names.set.keys a.locals.items };
 }
 
 impl<'a> Symbols<'a> {
@@ -84,9 +92,16 @@ impl<'a> Symbols<'a> {
         let listed = ListTable::new(alloc, statements)?;
         let dummies = dummy_positions(alloc, statements)?;
         let CommonNames { blocks, are_once } = common_names(alloc, statements)?;
-        let constants = constant_names(alloc, statements)?;
+        let constant_names = constant_names(alloc, statements)?;
+        let constants = constants(alloc, &listed)?;
         let names = names_of(alloc, &listed)?;
-        let locals = locals_among(alloc, &dummies, &blocks, &constants, names.set.as_slice())?;
+        let locals = locals_among(
+            alloc,
+            &dummies,
+            &blocks,
+            &constant_names,
+            names.set.as_slice(),
+        )?;
         Ok(Symbols {
             statements,
             types,
@@ -95,6 +110,7 @@ impl<'a> Symbols<'a> {
             dummies,
             blocks,
             are_common_once: are_once,
+            constant_names,
             constants,
             names,
             locals,
@@ -108,8 +124,8 @@ impl<'a> Symbols<'a> {
         self.statements
     }
 
-    // The meanings of names with lists in the unit.
-    pub(crate) fn listed(&self) -> &ListTable<'a>
+    /// The meanings of names with lists in the unit.
+    pub fn listed(&self) -> &ListTable<'a>
         ensures { result.now ≡ self.now }
     {
         &self.listed
@@ -172,6 +188,13 @@ impl<'a> Symbols<'a> {
         self.listed.is_array(name)
     }
 
+    /// The meaning of a name with a list in the unit.
+    pub fn listed_meaning(&self, name: &Name) -> Meaning
+        ensures { meaning result ≡ functions.listed_meaning self.now name.now }
+    {
+        self.listed.listed_meaning(name)
+    }
+
     /// Whether the unit references the name as a function of the program (15.5). The name has a list, and is
     /// no array, no function of the language, and not the name of the unit itself.
     pub fn is_referenced(&self, name: &Name) -> bool
@@ -229,7 +252,14 @@ impl<'a> Symbols<'a> {
     pub fn is_constant_name(&self, name: &Name) -> bool
         ensures { result ≡ declarations.is_constant_name self.now name.now }
     {
-        self.constants.set.contains(name)
+        self.constant_names.set.contains(name)
+    }
+
+    /// The constants of the unit, with their values (8.6).
+    pub fn constants(&self) -> &Constants
+        ensures { value_among result.now ≡ constant_value self.now }
+    {
+        &self.constants
     }
 }
 

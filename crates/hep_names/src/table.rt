@@ -3,8 +3,7 @@ ghost use Rattle.std.specs.Prelude.{◌≡◌, not, is_some, IfOk, OnOk};
 ghost use Rattle.std.specs.Option.{option_or};
 ghost use Rattle.indexmap.specs.IndexMap.{get};
 ghost use Rattle.indexmap.specs.IndexSet.{contains};
-ghost use Rattle.hep_machine.specs.Words.{same_name, name_eq};
-ghost use Rattle.hep_source.specs.declared.name.Name.{Name as PureName};
+ghost use Rattle.hep_machine.specs.Words.{same_name, name_eq, Name as PureName};
 ghost use Rattle.hep_names.specs.Tables.{by_name, either};
 
 use hep_source::Name;

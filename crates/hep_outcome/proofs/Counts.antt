@@ -2,20 +2,13 @@
 use Rattle.std.proofs.Common.{◌≡◌, ℕ, zero, suc, ◌+◌, Bool, true, false, List, [], ◌∷◌, ◌++◌, length, take, drop, Some, ap, ◌∙◌, arith, slice_get, slice_set, if◌then◌else◌}
 use Rattle.std.proofs.lemmas.Option.{none-some, same_Some}
 use Rattle.hep_outcome.specs.Outcome.{Outcome}
-use Rattle.hep_outcome.specs.Tallies.{Tally, counted, is_like, nth_seed, tallied, tallied_from, tally_of}
+use Rattle.hep_outcome.specs.Tallies.{Tally, counted, is_like, nth_seed, tallied_from, tally_of}
 
 either : (b : Bool) (x y : List Tally) → b ≡ false → (if b then x else y) ≡ y
 either b x y off = ap (λ c. if c then x else y) off
 
 one : (b : Bool) (x y : List Tally) → b ≡ true → (if b then x else y) ≡ x
 one b x y on = ap (λ c. if c then x else y) on
-
--- a tally that isn't like it stays
-pub counted-past : (new : Tally) (ts : List Tally) (k : ℕ) (t : Tally) → slice_get ts k ≡ Some t → is_like new t ≡ false
-    → take k ts ++ counted new (drop k ts) ≡ take (suc k) ts ++ counted new (drop (suc k) ts)
-counted-past new [] k t at off = absurd (none-some t at)
-counted-past new (x ∷ xs) zero t at off = either (is_like new x) (record x { count = x.count + 1 } ∷ xs) (x ∷ counted new xs) (ap (is_like new) (same_Some x t at) ∙ off)
-counted-past new (x ∷ xs) (suc k) t at off = ap (λ ys. x ∷ ys) (counted-past new xs k t at off)
 
 -- one that is like it is raised
 pub counted-here : (new : Tally) (ts : List Tally) (k : ℕ) (t : Tally) → slice_get ts k ≡ Some t → is_like new t ≡ true

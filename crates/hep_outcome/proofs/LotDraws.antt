@@ -5,7 +5,7 @@ use Rattle.std.proofs.lemmas.List.{length-map, take-append-le, take_all}
 use Rattle.std.proofs.lemmas.Option.{none-some, slice_get_past}
 use Rattle.std.proofs.Math.Seq.{take-append_seam}
 use Rattle.hep_machine.specs.declared.event.Entry.{Entry}
-use Rattle.hep_machine.specs.Words.{Units, last_process, living, next_of_ready, next_ready}
+use Rattle.hep_machine.specs.Words.{Units, last_process, living, next_of_ready, next_ready, IsLegal}
 use Rattle.hep_replay.specs.ChoiceStop.{ChoiceStop}
 use Rattle.hep_replay.specs.Turn.{Turn}
 use Rattle.hep_replay.specs.ChooseFault.TheVariants.{Stopped}
@@ -14,7 +14,6 @@ use Rattle.hep_replay.proofs.ProcessesOut.{all_free}
 use Rattle.hep_outcome.specs.LotDraws.{drawn, next_drawn, stay_of, word_of}
 use Rattle.hep_outcome.specs.KeptLots.{LotsValue, lots_after, next_in}
 use Rattle.hep_outcome.proofs.RunsByLots.{drawn-comes, drawn-none}
-use Rattle.hep_machine.specs.Words.{IsLegal}
 use Rattle.hep_outcome.specs.declared.options.LotOptions.{LotOptions}
 use Rattle.hep_outcome.specs.Outcome.{Outcome, next_process, outcome_of_end}
 use Rattle.hep_outcome.specs.RunProgress.{IsRunning}

@@ -1,5 +1,5 @@
 -- What is drawn is ready, and something is drawn where anything is ready; and the lots after one draw more.
-use Rattle.std.proofs.Common.{◌≡◌, ◌⊎◌, ℕ, zero, suc, ◌+◌, ◌-◌, ◌/◌, ◌%◌, ◌≤◌, Bool, true, false, if◌then◌else◌, List, [], ◌∷◌, Option, Some, None, inl, inr, refl, sym, ap, ◌∙◌, subst, arith, nat_eq, slice_get, eqb-true, option_and_then}
+use Rattle.std.proofs.Common.{◌≡◌, ◌⊎◌, ℕ, zero, suc, ◌+◌, ◌-◌, ◌/◌, ◌%◌, ◌≤◌, Bool, true, false, if◌then◌else◌, List, [], ◌∷◌, Option, Some, None, inl, inr, refl, sym, ap, ◌∙◌, arith, nat_eq, eqb-true, option_and_then}
 use Rattle.std.specs.Option.{option_map_or}
 use Rattle.std.proofs.lemmas.Bool.{and_parts, cases_lt, le-ltb, lt-ltb}
 use Rattle.std.proofs.lemmas.Option.{same_Some}
@@ -7,7 +7,7 @@ use Rattle.rand_pcg.specs.Lcg.{next_state, state_after}
 use Rattle.rand_pcg.specs.Pcg.{multiplier_64}
 use Rattle.hep_machine.specs.Words.{first_above, next_of_ready}
 use Rattle.hep_outcome.specs.KeptLots.{lots_after, lots_next}
-use Rattle.hep_outcome.specs.LotDraws.{drawn, drawn_anew, further, generator_after, is_ready, stay_of}
+use Rattle.hep_outcome.specs.LotDraws.{drawn, drawn_anew, further, generator_after, stay_of}
 
 -- ---- what is drawn
 

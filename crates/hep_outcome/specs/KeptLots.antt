@@ -1,5 +1,5 @@
 -- The state of lots, and the process that they draw in a core: docs/ARCHITECTURE.md, "Forms".
-use Rattle.std.specs.Prelude.{ℕ, List, length, Option}
+use Rattle.std.specs.Prelude.{ℕ, length, Option}
 use Rattle.rand_pcg.specs.Lcg.{Lcg}
 use Rattle.rand_pcg.specs.Pcg.{pcg32}
 use Rattle.hep_machine.specs.Words.{last_process}

@@ -1,5 +1,5 @@
 -- The ready process that a lot draws: docs/RUNS.md, "Lots".
-use Rattle.std.specs.Prelude.{ℕ, zero, suc, ◌+◌, ◌-◌, ◌/◌, ◌%◌, ◌^◌, ◌&&◌, Bool, false, not, nat_eq, if◌then◌else◌, List, length, Option, Some, None, option_and_then}
+use Rattle.std.specs.Prelude.{ℕ, zero, suc, ◌+◌, ◌-◌, ◌/◌, ◌%◌, ◌^◌, ◌&&◌, Bool, false, not, nat_eq, if◌then◌else◌, List, length, Option, Some, option_and_then}
 use Rattle.std.specs.Option.{option_map_or}
 use Rattle.rand_pcg.specs.Lcg.{Lcg, advance, increment_of, started}
 use Rattle.rand_pcg.specs.Pcg.{multiplier_64, pcg32}

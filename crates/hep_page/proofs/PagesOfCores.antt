@@ -1,5 +1,5 @@
 -- The page of a core that has made entries.
-use Rattle.std.proofs.Common.{◌≡◌, ℕ, ◌≤◌, ◌-◌, List, [], ◌++◌, drop, take, length, IsSome, is_some, true≢false, sym, ap, ◌∙◌, subst, arith, min}
+use Rattle.std.proofs.Common.{◌≡◌, ℕ, ◌≤◌, ◌-◌, List, [], ◌++◌, drop, take, length, IsSome, sym, ap, ◌∙◌, subst, arith, min}
 use Rattle.std.proofs.Math.Seq.{drop-append_seam}
 use Rattle.std.proofs.lemmas.Grind.{flat_map-append}
 use Rattle.std.proofs.lemmas.List.{length-take, take-append-drop, take-take, take_min}
@@ -7,7 +7,7 @@ use Rattle.std.proofs.lemmas.Option.{slice_get_within}
 use Rattle.hep_core.specs.CoreValues.{CoreValue}
 use Rattle.hep_machine.specs.declared.event.Entry.{Entry}
 use Rattle.hep_machine.specs.Words.{Progress, Units, opening, opening_layout, progress_after}
-use Rattle.hep_replay.specs.declared.replay_fault.ReplayFault.TheVariants.{ArenaFull, Refused}
+use Rattle.hep_replay.specs.declared.replay_fault.ReplayFault.TheVariants.{Refused}
 use Rattle.hep_replay.specs.Replays.{ArePossible, IsFirstImpossible, IsUnmade, replayed, single_entries, single_steps, standing}
 use Rattle.hep_replay.proofs.HistoryPrefixes.{first-of-front}
 use Rattle.hep_replay.proofs.ReplayTurns.{state_singles}
@@ -24,10 +24,6 @@ use Rattle.hep_page.specs.Templates.{RunTexts, TemplatePieces, page_with, templa
 use Rattle.hep_page.proofs.NextTurns.{entries-next}
 
 module _ (program : Units) (cells : ℕ) where
-  -- the arena isn't full at the opening where the main program's frame fits it
-  pub never-full : (entries : List Entry) → IsSome (opening_layout program cells) → IsUnmade program cells entries ArenaFull → ⊥
-  never-full entries fits none = true≢false (sym fits ∙ ap is_some none)
-
   -- an entry that is possible isn't refused
   pub never-refused : (entries : List Entry) (number entry : ℕ) → ArePossible program cells entries (length entries) → IsUnmade program cells entries (Refused number entry) → ⊥
   never-refused entries number entry possible (fits, is, first) =

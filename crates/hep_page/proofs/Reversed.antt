@@ -1,5 +1,5 @@
 -- Lists from the last item on.
-use Rattle.std.proofs.Common.{◌≡◌, ◌∙◌, ℕ, List, [], ◌∷◌, ◌++◌, ap, map, refl, reverse, sym}
+use Rattle.std.proofs.Common.{◌≡◌, ◌∙◌, List, [], ◌∷◌, ◌++◌, ap, map, refl, reverse, sym}
 use Rattle.std.proofs.lemmas.List.{map-append, reverse-append}
 
 -- what is made of each item, from the last one on, is made of the items from the last one on

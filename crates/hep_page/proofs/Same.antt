@@ -42,12 +42,6 @@ counts-all xs ys i all x y h k u v e so_far =
     let next = other xs ys i h k (rw (u, v) e) in
     omega arith
 
--- there is no old line at i
-pub old-end : (xs ys : List (List ℕ)) (i all : ℕ) → length xs ≤ i → i + same_front (drop i xs) (drop i ys) ≡ all → i ≡ all
-old-end xs ys i all h so_far =
-    let next : same_front (drop i xs) (drop i ys) ≡ 0 = rw (drop_all {X = List ℕ} i xs h) refl in
-    omega arith
-
 -- there is no new line at i
 pub new-end : (xs ys : List (List ℕ)) (i all : ℕ) → length ys ≤ i → i + same_front (drop i xs) (drop i ys) ≡ all → i ≡ all
 new-end xs ys i all h so_far =

@@ -41,10 +41,6 @@ waits-so program image history cells p m want text listed same after blocked is 
     subst (λ (us : Units). IsTextOfWait us m p want text) same is cells (schedule_of history) after blocked
     ∙ ap (λ (b : Bool). if b then words.waiting_text program (run program (schedule_of history)) (wanted_by program p (run program (schedule_of history))) else []) found
 
--- one that isn't listed as waiting has no words
-pub no-wait : (program : Units) (s : State) (p : ℕ) (listed : Bool) → false ≡ listed → [] ≡ words.wait_text program s p listed
-no-wait program s p listed none = ap (λ (b : Bool). if b then words.waiting_text program s (wanted_by program p s) else []) none
-
 -- one that lives has levels
 pub has-levels : (program : Units) (history : List Entry) (cells p : ℕ) (m : CoreState) → IsMachineAfter program cells (schedule_of history) m → is_some (living (state_after program history) p) ≡ true → HasLevels (snapshot_of m) p
 unfolding state_after

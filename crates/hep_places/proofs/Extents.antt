@@ -2,7 +2,7 @@
 use Rattle.std.proofs.Common.{◌≡◌, ℕ, Bool, true, false, List, [], ◌∷◌, Option, Some, None, length, refl, ap, sym, ◌∙◌, arith, true≢false, if◌then◌else◌, nat_eq}
 use Rattle.std.proofs.lemmas.Bool.Decides.{nat_tests}
 use Rattle.hep_machine.specs.Words.{Dimension, Name, Statement, Constants, adjustable_dimensions, bounds_of, constant_shape, constant_value, if_shape, value_among, dimensions_of, is_array, is_nonempty, Bounds}
-use Rattle.hep_values.proofs.CellCounts.{adjustable}
+use Rattle.hep_names.proofs.CellCounts.{adjustable}
 use Rattle.hep_places.specs.StorageStarts.{shape_found}
 
 pub array-shape : (unit : List Statement) (x : Name) → is_array unit x ≡ true → if_shape (bounds_of unit (constant_value unit) (dimensions_of unit x)) ≡ constant_shape unit x

@@ -4,8 +4,7 @@ use Rattle.std.specs.Option.{option_map, unwrap_or}
 use Rattle.std.proofs.lemmas.Bool.{and_parts, not-true}
 use Rattle.std.proofs.lemmas.Bool.Decides.{nat_tests}
 use Rattle.std.proofs.lemmas.Option.{none-some}
-use Rattle.hep_machine.specs.Words.{trees_of, DataGroup, Target, Name, Statement, Value, index_among, is_among, Units, main_unit, unit_at, integers_of, cells_of, cells_of_shape, constant_shape, constant_value, shape_by, values_of, Stretch, all_elements, data_groups, element_with, elements_named, groups_in}
-use Rattle.hep_machine.specs.Words.{common_block, is_array, is_common, is_constant_name, is_dummy, is_nonempty, no_shape, common_cells, Bounds, are_dimensions, counted_element, element_number, elements, is_most, is_shape, most_elements, frame_cells, is_local, locals_of, names_of}
+use Rattle.hep_machine.specs.Words.{trees_of, DataGroup, Target, Name, Statement, Value, index_among, is_among, Units, main_unit, unit_at, integers_of, cells_of, cells_of_shape, constant_shape, constant_value, shape_by, values_of, Stretch, all_elements, data_groups, element_with, elements_named, groups_in, common_block, is_array, is_common, is_constant_name, is_dummy, is_nonempty, no_shape, common_cells, Bounds, are_dimensions, counted_element, element_number, elements, is_most, is_shape, most_elements, frame_cells, is_local, locals_of, names_of}
 use Rattle.hep_machine.proofs.ConstantShapes.{constant-shape}
 use Rattle.hep_conditions.specs.Words.{IsAccepted}
 use Rattle.hep_code.specs.declared.variable.Variable.{Variable}
@@ -13,7 +12,7 @@ use Rattle.hep_code.specs.declared.variable.Variable.TheVariants as variables
 use Rattle.hep_layout.specs.Words.{bounds, first_of_part, frame_row, same_part, size_in, variable}
 use Rattle.hep_layout.proofs.FrameRows.{frame_row-cells, variable-first, first-size}
 use Rattle.hep_layout.proofs.Runs.{local-index}
-use Rattle.hep_values.proofs.Elements.{number-within}
+use Rattle.hep_names.proofs.Elements.{number-within}
 use Rattle.hep_accepted_laws.specs.PartlyEvaluated.{HasShape}
 use Rattle.hep_accepted_laws.proofs.NameMeanings.{data_known}
 use Rattle.hep_accepted_laws.proofs.Members.{Has, flat_has, has_filter, has_flat, image_at}

@@ -2,7 +2,7 @@
 use Rattle.std.proofs.Common.{◌≡◌, ℕ, ◌+◌, ◌≤◌, Bool, true, false, Option, Some, None, refl, ap, sym, ◌∙◌, cond, if◌then◌else◌}
 use Rattle.std.specs.Option.{option_eq, unwrap_or}
 use Rattle.hep_machine.specs.Words.{name_eq, BlockName, same_block}
-use Rattle.hep_values.proofs.BlockNames.{changed}
+use Rattle.hep_names.proofs.BlockNames.{changed}
 use Rattle.hep_storage.specs.Starts.{narrowed}
 use Rattle.hep_places.proofs.Narrowed.{narrowed-small}
 use Rattle.hep_places.proofs.InBlocks.{none-before}

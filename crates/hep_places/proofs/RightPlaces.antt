@@ -4,8 +4,7 @@ use Rattle.std.specs.List.{filter, flat_map}
 use Rattle.std.specs.Option.{option_map, unwrap_or}
 use Rattle.std.proofs.lemmas.Option.{none-some}
 use Rattle.hep_source.proofs.NameTests.{equal_names}
-use Rattle.hep_machine.specs.Words.{CommonBlock, Declarator, Name, Occurrence, Form, Statement, index_among, is_among, same_name, Units, dummies_by_header, dummies_of, adjustable_dimensions, bounds_of, constant_shape, constant_value, constants_of, if_shape, BlockName, blocks_in, blocks_of_unit, common_block}
-use Rattle.hep_machine.specs.Words.{dimensions_of, is_array, is_nonempty, names_declared, no_shape, Bounds, is_local, locals_of, names_of, occurrences_in_block, occurrences_in_declarator, occurrences_in_form, occurrences_in_statement, occurrences_of}
+use Rattle.hep_machine.specs.Words.{CommonBlock, Declarator, Name, Occurrence, Form, Statement, index_among, is_among, same_name, Units, dummies_by_header, dummies_of, adjustable_dimensions, bounds_of, constant_shape, constant_value, constants_of, if_shape, BlockName, blocks_in, blocks_of_unit, common_block, dimensions_of, is_array, is_nonempty, names_declared, no_shape, Bounds, is_local, locals_of, names_of, occurrences_in_block, occurrences_in_declarator, occurrences_in_form, occurrences_in_statement, occurrences_of}
 use Rattle.hep_source.specs.declared.statement.Form.TheVariants as form
 use Rattle.hep_accepted_laws.proofs.Members.{Has, among_has, flat_has, has_behind, has_filter, has_flat, has_front, has_more, map_at, has_among, name_of_unit}
 use Rattle.hep_code.specs.declared.variable.Variable.{Variable}
@@ -16,7 +15,7 @@ use Rattle.hep_image.specs.declared.array.Start.{Start}
 use Rattle.hep_image.specs.declared.array.Start.TheVariants.{Local}
 use Rattle.hep_image.specs.Places.{array_of, arrays_of, extents_of, scalar, start_by, start_of, variable_by, variable_of}
 use Rattle.hep_image.specs.Private.{is_private, private_cells}
-use Rattle.hep_values.proofs.CellCounts.{adjustable}
+use Rattle.hep_names.proofs.CellCounts.{adjustable}
 use Rattle.hep_storage.specs.Starts.{narrowed}
 use Rattle.hep_places.specs.StorageStarts.{Table, array_found, arrays_with, constant_extents, extents_found, variable_among, variable_found}
 use Rattle.hep_places.proofs.InBlocks.{held-by, none-before}

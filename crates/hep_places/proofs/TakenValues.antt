@@ -18,14 +18,6 @@ taken None true v r = refl
 taken None false v r = refl
 taken (Some b) t v r = refl
 
-pub start-next : (x y : Name) (c n m : ℕ) (row rest : Row Name) (a new whole : Option ℕ)
-    → option_or a (start_among n row x) ≡ whole → row ≡ (y, c) ∷ rest → new ≡ option_or a (by_name y n x) → m ≡ narrowed (n + c) → option_or new (start_among m rest x) ≡ whole
-start-next x y c n m row rest a new whole h d e f =
-    ap (λ o. option_or o (start_among m rest x)) e
-    ∙ (ap (λ k. option_or (option_or a (by_name y n x)) (start_among k rest x)) f
-    ∙ (taken a (same_name x y) n (start_among (narrowed (n + c)) rest x)
-    ∙ (ap (λ r. option_or a (start_among n r x)) (sym d) ∙ h)))
-
 pub offset-next : (unit : List Statement) (x : Name) (e : NameInBlock) (lengths longer : BlockName → ℕ) (es rest : List NameInBlock) (a new whole : Option ℕ)
     → option_or a (offset_among unit lengths es x) ≡ whole → es ≡ e ∷ rest → new ≡ option_or a (by_name e.name (lengths e.block) x)
     → ((b : BlockName) → longer b ≡ lengthened lengths e.block (cells_of unit e.name) b) → option_or new (offset_among unit longer rest x) ≡ whole

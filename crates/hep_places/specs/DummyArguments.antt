@@ -2,7 +2,7 @@
 use Rattle.std.specs.Prelude.{ℕ, ◌+◌, nat_eq, if◌then◌else◌, List, Option, Some, None}
 use Rattle.std.specs.Option.{unwrap_or}
 use Rattle.indexmap.specs.IndexMap.{get}
-use Rattle.hep_machine.specs.Words.{Dimension, Name, Statement, name_eq, index_among, dummies_of, Values, adjustable_dimensions, constant_shape, value_among, BlockName, common_block, dimensions_of, is_array, is_common, Bounds}
+use Rattle.hep_machine.specs.Words.{Dimension, Name, Statement, name_eq, index_among, dummies_of, Values, adjustable_dimensions, constant_shape, constant_value, BlockName, common_block, dimensions_of, is_array, is_common, Bounds}
 use Rattle.hep_code.specs.BoundCode.{Sources}
 use Rattle.hep_code.specs.DimensionCode.{code_of_dimensions}
 use Rattle.hep_code.specs.Sources.{source_by}
@@ -24,7 +24,7 @@ source_found unit values common offsets x =
     source_by (values x) (index_among x (dummies_of unit)) (is_common unit x) (cell_by common (common_block unit x) (offsets x))
 
 unfoldable pub source_in : BoundContext → Sources
-source_in k = source_found k.symbols.now (value_among k.constants.now) k.common.now (get name_eq k.tables.now.offsets)
+source_in k = source_found k.symbols.now (constant_value k.symbols.now) k.common.now (get name_eq k.tables.now.offsets)
 
 -- no array of an accepted program is without a shape
 abbrev pub constant_array : Option Bounds → DummyArgument

@@ -1,7 +1,6 @@
 -- The values of a group that are left: X3.9-1978, 9.1.
 use Rattle.std.specs.Prelude.{◌≡◌, ℕ, List, ◌∷◌, None}
-use Rattle.hep_machine.specs.Words.{DataValue, Value, value_among, Repeated, item_at}
-use Rattle.hep_machine.specs.Constants.{Values as Meanings}
+use Rattle.hep_machine.specs.Words.{DataValue, Value, value_among, Repeated, item_at, Values as Meanings}
 use Rattle.hep_places.specs.declared.group_values.GroupValues.{GroupValues}
 use Rattle.hep_places.specs.InitialValues.{all_values}
 

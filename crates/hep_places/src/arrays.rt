@@ -2,7 +2,7 @@
 ghost use Rattle.std.specs.Prelude.{◌≡◌, true, map, length, None, IfOk};
 ghost use Rattle.std.specs.List.{filter};
 ghost use Rattle.indexmap.specs.IndexMap.{get};
-ghost use Rattle.hep_machine.specs.Words.{name_eq, adjustable_dimensions, value_among, constant_value};
+ghost use Rattle.hep_machine.specs.Words.{name_eq, adjustable_dimensions};
 ghost use Rattle.hep_machine.specs.Declarations as declarations;
 ghost use Rattle.hep_places.specs.StorageStarts as found;
 
@@ -10,9 +10,9 @@ use crate::bound_code::BoundContext;
 use crate::cell_numbers::in_32_bits;
 use crate::storage_starts::start_of;
 use hep_image::{Array, Extents, Start};
+use hep_names::bounds_of;
 use hep_shape::Shape;
 use hep_source::Name;
-use hep_values::bounds_of;
 use std::alloc::{AllocError, Global};
 
 // The shape of an array with constant bounds. In accepted programs such bounds always are a shape.
@@ -21,22 +21,20 @@ pub(crate) fn shape_of(
     known: &BoundContext,
     name: &Name,
 ) -> Result<Option<Option<Shape>>, AllocError>
-    requires values { value_among known.now.constants.now ≡ constant_value known.now.symbols.now }
-    requires array { declarations.is_array known.now.symbols.now name.now ≡ true }
+    requires { declarations.is_array known.now.symbols.now name.now ≡ true }
     ensures shape { IfOk result (λ shape. shape ≡ found.shape_found known.now.symbols.now name.now) }
     ensures adjustable { IfOk result (λ shape. shape ≡ None
         → length (declarations.dimensions_of known.now.symbols.now name.now) ≡ adjustable_dimensions known.now.symbols.now name.now) }
 {
     let dimensions = known.symbols.dimensions(name);
-    match bounds_of(alloc, known.symbols, known.constants, dimensions)? {
+    match bounds_of(alloc, known.symbols, known.symbols.constants(), dimensions)? {
         Some(bounds) => Ok(Some(Shape::new(&bounds))),
         None => Ok(None),
     }
 }
 
 fn extents_of(alloc: Global, known: &BoundContext, name: &Name) -> Result<Extents, AllocError>
-    requires values { value_among known.now.constants.now ≡ constant_value known.now.symbols.now }
-    requires array { declarations.is_array known.now.symbols.now name.now ≡ true }
+    requires { declarations.is_array known.now.symbols.now name.now ≡ true }
     ensures { IfOk result (λ extents. extents
         ≡ found.extents_found known.now.symbols.now (get name_eq known.now.tables.now.bounds) name.now) }
 {
@@ -54,8 +52,7 @@ fn extents_of(alloc: Global, known: &BoundContext, name: &Name) -> Result<Extent
 }
 
 fn array_of(alloc: Global, known: &BoundContext, name: &Name) -> Result<Array, AllocError>
-    requires values { value_among known.now.constants.now ≡ constant_value known.now.symbols.now }
-    requires array { declarations.is_array known.now.symbols.now name.now ≡ true }
+    requires { declarations.is_array known.now.symbols.now name.now ≡ true }
     ensures { IfOk result (λ array. array ≡ found.array_in known.now name.now) }
 {
     let extents = extents_of(alloc, known, name)?;
@@ -71,7 +68,6 @@ pub(crate) fn arrays_among(
     known: &BoundContext,
     names: &[Name],
 ) -> Result<Vec<Array>, AllocError>
-    requires { value_among known.now.constants.now ≡ constant_value known.now.symbols.now }
     ensures { IfOk result (λ arrays. arrays.items
         ≡ map (found.array_in known.now) (filter (declarations.is_array known.now.symbols.now) names.now)) }
 {

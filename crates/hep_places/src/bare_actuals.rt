@@ -2,8 +2,7 @@
 ghost use Rattle.std.specs.Prelude.{◌≡◌, map, IfOk, OnOk};
 ghost use Rattle.std.specs.List.{flat_map};
 ghost use Rattle.indexmap.specs.IndexSet.{contains};
-ghost use Rattle.hep_source.specs.declared.name.Name.{Name as PureName};
-ghost use Rattle.hep_machine.specs.Words.{is_among, name_eq};
+ghost use Rattle.hep_machine.specs.Words.{is_among, name_eq, Name as PureName};
 ghost use Rattle.hep_conditions.specs.Statements as statements;
 ghost use Rattle.hep_names.specs.Lists.{listed};
 ghost use Rattle.hep_names.specs.Tables.{either};

@@ -2,17 +2,15 @@
 ghost use Rattle.std.specs.Prelude.{◌≡◌, ◌++◌, None, map, IfOk, OnOk};
 ghost use Rattle.std.specs.Option.{option_or};
 ghost use Rattle.indexmap.specs.IndexMap.{get};
-ghost use Rattle.hep_source.specs.declared.name.Name.{Name as PureName};
-ghost use Rattle.hep_machine.specs.Words.{name_eq, value_among, constant_value, BlockName};
+ghost use Rattle.hep_machine.specs.Words.{name_eq, BlockName, Name as PureName};
 ghost use Rattle.hep_machine.specs.Declarations as declarations;
 ghost use Rattle.hep_names.specs.Tables.{by_name};
 ghost use Rattle.hep_places.specs.StorageStarts as found;
 
 use crate::cell_numbers::further;
 use hep_names::specification::{block_of, blocks_in};
-use hep_names::{Symbols, note};
+use hep_names::{Symbols, cells_of, note};
 use hep_source::{CommonBlock, Declarator, Name, Statement};
-use hep_values::{Constants, cells_of};
 use indexmap::IndexMap;
 use std::alloc::{AllocError, Global};
 use std::mem::replace;
@@ -124,20 +122,18 @@ impl Offsets {
     }
 }
 
-// The offset in its block of each name in COMMON. `constants` has all constants of the unit.
+// The offset in its block of each name in COMMON.
 pub(crate) fn offset_table(
     alloc: Global,
     symbols: &Symbols,
-    constants: &Constants,
 ) -> Result<IndexMap<Name, u32>, AllocError>
-    requires { value_among constants.now ≡ constant_value symbols.now }
     ensures { IfOk result (λ table. (x : PureName) → get name_eq table x
         ≡ found.offset_among symbols.now found.no_length (found.entries_of symbols.now) x) }
 {
     let entries = entries_of(alloc, symbols.statements())?;
     let mut offsets = Offsets::new(alloc, entries.len())?;
     for entry in &entries {
-        let cells = cells_of(alloc, symbols, constants, &entry.name)?;
+        let cells = cells_of(alloc, symbols, &entry.name)?;
         offsets.add(entry, cells)?;
     }
     Ok(replace(&mut offsets.table, IndexMap::new(alloc)))

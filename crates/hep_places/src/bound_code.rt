@@ -1,6 +1,6 @@
 //! The code of bounds (X3.9-1978, 5.5.1).
 ghost use Rattle.std.specs.Prelude.{◌≡◌, ◌++◌, ◌∷◌, [], OnOk};
-ghost use Rattle.hep_machine.specs.Words.{trees_of};
+ghost use Rattle.hep_machine.specs.Words.{trees_of, constant_value};
 ghost use Rattle.hep_code.specs.BoundCode as codes;
 ghost use Rattle.hep_code.specs.DimensionCode.{code_of_lower, code_of_dimensions};
 ghost use Rattle.hep_code.specs.Words.{count};
@@ -13,16 +13,21 @@ use hep_code::BoundOperation;
 use hep_names::{Meaning, Symbols};
 use hep_source::{Dimension, Expr, Name, Node, UpperBound, Value};
 use hep_storage::CommonStarts;
-use hep_values::Constants;
 use std::alloc::AllocError;
 
-// The tables for the names of a unit. `constants` has all constants of the unit.
+// The tables for the names of a unit.
 #[derive(Clone, Copy)]
 pub(crate) struct BoundContext<'a> {
     pub(crate) symbols: &'a Symbols<'a>,
     pub(crate) common: &'a CommonStarts,
-    pub(crate) constants: &'a Constants,
     pub(crate) tables: &'a StorageStarts,
+}
+
+// The value of a named constant (8.6).
+fn constant(symbols: &Symbols, name: &Name) -> Option<Value>
+    ensures { result ≡ constant_value symbols.now name.now }
+{
+    symbols.constants().get(name)
 }
 
 // The source of a name's value: for a named constant it is known (8.6); otherwise a dummy argument or a name in
@@ -31,7 +36,7 @@ pub(crate) struct BoundContext<'a> {
 fn source(known: &BoundContext, name: &Name) -> BoundOperation
     ensures { result ≡ source_in known.now name.now }
 {
-    if let Some(value) = known.constants.get(name) {
+    if let Some(value) = constant(known.symbols, name) {
         return BoundOperation::Value(value);
     }
     if let Some(position) = known.symbols.dummy_position(name) {

@@ -2,15 +2,15 @@
 ghost use Rattle.std.specs.Prelude.{◌≡◌, IfOk, slice_get};
 ghost use Rattle.std.specs.Option.{option_map, unwrap_or};
 ghost use Rattle.indexmap.specs.IndexMap.{get};
-ghost use Rattle.hep_machine.specs.Words.{name_eq, value_among, constant_value, is_nonempty};
+ghost use Rattle.hep_machine.specs.Words.{name_eq, is_nonempty};
 ghost use Rattle.hep_places.specs.InitialValues as given;
 
 use crate::main_frame::MainFrame;
 use hep_code::Variable;
 use hep_image::{Array, Extents, Start};
+use hep_names::integers;
 use hep_shape::Shape;
 use hep_source::Target;
-use hep_values::{Constants, integers};
 use std::alloc::{AllocError, Global};
 
 /// Cells of the arena in a row.
@@ -83,17 +83,15 @@ fn number_by(shape: &Shape, subscripts: Option<Vec<i64>>) -> Option<u32>
 fn cells_of_array(
     alloc: Global,
     frame: &MainFrame,
-    constants: &Constants,
     cell: u32,
     shape: &Shape,
     target: &Target,
 ) -> Result<Option<CellRange>, AllocError>
-    requires { value_among constants.now ≡ constant_value frame.now.symbols.now }
     ensures { IfOk result (λ cells. cells ≡ given.cells_of_array frame.now.symbols.now frame.now.common cell shape.now target.now) }
 {
     if has_subscripts(target) {
         let subscripts = target.subscripts.as_slice();
-        let integers = integers(alloc, frame.symbols, constants, subscripts)?;
+        let integers = integers(alloc, frame.symbols, frame.symbols.constants(), subscripts)?;
         Ok(cell_of_element(frame.common, cell, number_by(shape, integers)))
     } else {
         Ok(cells_of_all_elements(frame.common, cell, shape.cells()))
@@ -104,11 +102,9 @@ fn cells_of_array(
 fn cells_by_array(
     alloc: Global,
     frame: &MainFrame,
-    constants: &Constants,
     index: u32,
     target: &Target,
 ) -> Result<Option<CellRange>, AllocError>
-    requires { value_among constants.now ≡ constant_value frame.now.symbols.now }
     ensures { IfOk result (λ cells. cells
         ≡ given.cells_by_array frame.now.symbols.now frame.now.common (slice_get frame.now.arrays.now index) target.now) }
 {
@@ -118,7 +114,7 @@ fn cells_by_array(
                 start: Start::Local(cell),
                 extents: Extents::Constant(shape),
             },
-        ) => cells_of_array(alloc, frame, constants, *cell, shape, target),
+        ) => cells_of_array(alloc, frame, *cell, shape, target),
         _ => Ok(None),
     }
 }
@@ -134,21 +130,18 @@ fn variable(frame: &MainFrame, target: &Target) -> Variable
         .unwrap_or(Variable::Absent)
 }
 
-// The cells of a name in DATA: of a local variable, or of elements of one. `constants` has all constants of the main
-// program.
+// The cells of a name in DATA: of a local variable, or of elements of one.
 pub(crate) fn cells_named(
     alloc: Global,
     frame: &MainFrame,
-    constants: &Constants,
     target: &Target,
 ) -> Result<Option<CellRange>, AllocError>
-    requires { value_among constants.now ≡ constant_value frame.now.symbols.now }
     ensures { IfOk result (λ cells. cells
         ≡ given.cells_named frame.now.symbols.now (get name_eq frame.now.variables.now) frame.now.arrays.now frame.now.common target.now) }
 {
     match variable(frame, target) {
         Variable::Local { cell, .. } => Ok(cells_of_scalar(frame.common, cell, target)),
-        Variable::Array { array, .. } => { cells_by_array(alloc, frame, constants, array, target) }
+        Variable::Array { array, .. } => { cells_by_array(alloc, frame, array, target) }
         _ => Ok(None),
     }
 }

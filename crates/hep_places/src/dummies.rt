@@ -1,6 +1,6 @@
 //! The dummy arguments of a unit (X3.9-1978, 5.5.1 and 15.9.3).
 ghost use Rattle.std.specs.Prelude.{◌≡◌, true, map, IfOk};
-ghost use Rattle.hep_machine.specs.Words.{dummies_of, value_among, constant_value, is_array};
+ghost use Rattle.hep_machine.specs.Words.{dummies_of, is_array};
 ghost use Rattle.hep_places.specs.DummyArguments as dummies;
 
 use crate::arrays::shape_of;
@@ -28,8 +28,7 @@ fn array_argument(
     known: &BoundContext,
     name: &Name,
 ) -> Result<DummyArgument, AllocError>
-    requires values { value_among known.now.constants.now ≡ constant_value known.now.symbols.now }
-    requires array { is_array known.now.symbols.now name.now ≡ true }
+    requires { is_array known.now.symbols.now name.now ≡ true }
     ensures { IfOk result (λ argument. argument ≡ dummies.array_found known.now.symbols.now (dummies.source_in known.now) name.now) }
 {
     match shape_of(alloc, known, name)? {
@@ -45,7 +44,6 @@ fn dummy_argument(
     known: &BoundContext,
     name: &Name,
 ) -> Result<DummyArgument, AllocError>
-    requires { value_among known.now.constants.now ≡ constant_value known.now.symbols.now }
     ensures { IfOk result (λ argument. argument ≡ dummies.dummy_found known.now.symbols.now (dummies.source_in known.now) name.now) }
 {
     if known.symbols.is_array(name) {
@@ -60,7 +58,6 @@ pub(crate) fn dummy_arguments(
     alloc: Global,
     known: &BoundContext,
 ) -> Result<Vec<DummyArgument>, AllocError>
-    requires { value_among known.now.constants.now ≡ constant_value known.now.symbols.now }
     ensures { IfOk result (λ arguments. arguments.items
         ≡ map (dummies.dummy_found known.now.symbols.now (dummies.source_in known.now)) (dummies_of known.now.symbols.now)) }
 {

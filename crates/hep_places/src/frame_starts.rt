@@ -2,25 +2,16 @@
 ghost use Rattle.std.specs.Prelude.{◌≡◌, ℕ, ◌+◌, ◌*◌, List, map, None, IfOk, OnOk};
 ghost use Rattle.std.specs.Option.{option_or};
 ghost use Rattle.indexmap.specs.IndexMap.{get};
-ghost use Rattle.hep_source.specs.declared.name.Name.{Name as PureName};
-ghost use Rattle.hep_machine.specs.Words.{name_eq, Statement, value_among, constant_value};
+ghost use Rattle.hep_machine.specs.Words.{name_eq, Statement, Name as PureName};
 ghost use Rattle.hep_machine.specs.Constants as values;
 ghost use Rattle.hep_storage.specs.Starts.{narrowed};
 ghost use Rattle.hep_places.specs.StorageStarts as found;
 
 use crate::cell_numbers::{behind_pairs, further};
-use hep_names::{Symbols, note};
+use hep_names::{Symbols, adjustable_dimensions, cells_of, note};
 use hep_source::{Name, Occurrence};
-use hep_values::{Constants, adjustable_dimensions, cells_of};
 use indexmap::IndexMap;
 use std::alloc::{AllocError, Global};
-
-// The sizes of names: the symbols of a unit, and all its constants.
-#[derive(Clone, Copy)]
-pub(crate) struct SizeContext<'a> {
-    pub(crate) symbols: &'a Symbols<'a>,
-    pub(crate) constants: &'a Constants,
-}
 
 // A part of a frame that has a name.
 pub(crate) trait FrameItem {
@@ -32,9 +23,8 @@ pub(crate) trait FrameItem {
         ensures { result ≡ name_of self.now };
 
     // The cell after it, where `first` is its first one.
-    fn behind(&self, alloc: Global, sizes: &SizeContext, first: u32) -> Result<u32, AllocError>
-        requires { value_among sizes.now.constants.now ≡ constant_value sizes.now.symbols.now }
-        ensures { IfOk result (λ next. next ≡ narrowed (first + cells_of sizes.now.symbols.now self.now)) };
+    fn behind(&self, alloc: Global, symbols: &Symbols, first: u32) -> Result<u32, AllocError>
+        ensures { IfOk result (λ next. next ≡ narrowed (first + cells_of symbols.now self.now)) };
 }
 
 // A variable.
@@ -47,8 +37,8 @@ impl FrameItem for Name {
         *self
     }
 
-    fn behind(&self, alloc: Global, sizes: &SizeContext, first: u32) -> Result<u32, AllocError> {
-        let cells = cells_of(alloc, sizes.symbols, sizes.constants, self)?;
+    fn behind(&self, alloc: Global, symbols: &Symbols, first: u32) -> Result<u32, AllocError> {
+        let cells = cells_of(alloc, symbols, self)?;
         Ok(further(first, cells))
     }
 }
@@ -63,8 +53,8 @@ impl FrameItem for Occurrence {
         self.name
     }
 
-    fn behind(&self, alloc: Global, sizes: &SizeContext, first: u32) -> Result<u32, AllocError> {
-        let pairs = adjustable_dimensions(alloc, sizes.symbols, sizes.constants, &self.name)?;
+    fn behind(&self, alloc: Global, symbols: &Symbols, first: u32) -> Result<u32, AllocError> {
+        let pairs = adjustable_dimensions(alloc, symbols, &self.name)?;
         Ok(behind_pairs(first, pairs))
     }
 }
@@ -98,18 +88,17 @@ impl FrameStarts {
     pub(crate) fn add_all<T: FrameItem>(
         &mut self,
         alloc: Global,
-        sizes: &SizeContext,
+        symbols: &Symbols,
         items: &[T],
     ) -> Result<(), AllocError>
-        requires { value_among sizes.now.constants.now ≡ constant_value sizes.now.symbols.now }
         ensures table { OnOk result ((x : PureName) → get name_eq self.new.table x
             ≡ option_or (get name_eq self.old.table x)
-            (found.start_among self.old.next (map (λ y. (T.name_of y, T.cells_of sizes.now.symbols.now y)) items.now) x)) }
+            (found.start_among self.old.next (map (λ y. (T.name_of y, T.cells_of symbols.now y)) items.now) x)) }
         ensures next { OnOk result (self.new.next
-            ≡ found.behind self.old.next (map (λ y. (T.name_of y, T.cells_of sizes.now.symbols.now y)) items.now)) }
+            ≡ found.behind self.old.next (map (λ y. (T.name_of y, T.cells_of symbols.now y)) items.now)) }
     {
         for item in items {
-            let next = item.behind(alloc, sizes, self.next)?;
+            let next = item.behind(alloc, symbols, self.next)?;
             note(&mut self.table, item.name(), self.next)?;
             self.next = next;
         }

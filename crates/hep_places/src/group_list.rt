@@ -3,8 +3,8 @@ ghost use Rattle.std.specs.Prelude.{◌≡◌, ◌++◌, [], ◌∷◌, IfOk, On
 ghost use Rattle.hep_machine.specs.Data as machine;
 ghost use Rattle.hep_names.specs.Statements.{rest_after};
 
+use hep_names::data::groups_in;
 use hep_source::{DataGroup, Statement};
-use hep_values::statements::groups_in;
 use std::alloc::{AllocError, Global};
 
 type Groups<'a> = Vec<&'a DataGroup>;

@@ -2,7 +2,7 @@
 ghost use Rattle.std.specs.Prelude.{◌≡◌, ◌+◌, ◌<◌, ◌≤◌, [], ◌∷◌, IfOk, IfSome, OnOk, ℕ, option_to_list};
 ghost use Rattle.std.specs.Option.{option_or};
 ghost use Rattle.indexmap.specs.IndexMap.{get};
-ghost use Rattle.hep_machine.specs.Words.{name_eq, value_among, constant_value};
+ghost use Rattle.hep_machine.specs.Words.{name_eq};
 ghost use Rattle.hep_image.specs.Data.{value_in_rows};
 ghost use Rattle.hep_places.specs.CellRows.{Gives, GivesSome};
 ghost use Rattle.hep_places.specs.InitialValues as given;
@@ -13,7 +13,6 @@ use crate::group_values::GroupValues;
 use crate::main_frame::MainFrame;
 use hep_image::DataRow;
 use hep_source::{DataGroup, Target};
-use hep_values::Constants;
 use std::alloc::{AllocError, Global};
 
 // Adds a row for the first of these cells, all that get the next value, and returns the cells that are left. None are
@@ -80,18 +79,16 @@ fn add_named(
 fn add_target(
     alloc: Global,
     frame: &MainFrame,
-    constants: &Constants,
     rows: &mut Vec<DataRow>,
     values: &mut GroupValues,
     target: &Target,
 ) -> Result<(), AllocError>
-    requires { value_among constants.now ≡ constant_value frame.now.symbols.now }
     ensures { OnOk result (Gives (option_to_list
         (given.cells_named frame.now.symbols.now
         (get name_eq frame.now.variables.now) frame.now.arrays.now frame.now.common target.now)) rows.old.items
         (left values.old) rows.new.items (left values.new)) }
 {
-    let cells = cells_named(alloc, frame, constants, target)?;
+    let cells = cells_named(alloc, frame, target)?;
     add_named(rows, cells, values)
 }
 
@@ -99,43 +96,32 @@ fn add_target(
 fn add_targets(
     alloc: Global,
     frame: &MainFrame,
-    constants: &Constants,
     rows: &mut Vec<DataRow>,
     values: &mut GroupValues,
     targets: &[Target],
 ) -> Result<(), AllocError>
-    requires { value_among constants.now ≡ constant_value frame.now.symbols.now }
     ensures { OnOk result (Gives (given.all_cells_named frame.now.symbols.now
         (get name_eq frame.now.variables.now) frame.now.arrays.now frame.now.common targets.now) rows.old.items
         (left values.old) rows.new.items (left values.new)) }
 {
     for target in targets {
-        add_target(alloc, frame, constants, rows, values, target)?;
+        add_target(alloc, frame, rows, values, target)?;
     }
     Ok(())
 }
 
-/// Adds the rows of a group. `constants` has all constants of the main program.
+/// Adds the rows of a group.
 pub(crate) fn add_group(
     alloc: Global,
     frame: &MainFrame,
-    constants: &Constants,
     rows: &mut Vec<DataRow>,
     group: &DataGroup,
 ) -> Result<(), AllocError>
-    requires { value_among constants.now ≡ constant_value frame.now.symbols.now }
     ensures { OnOk result ((p : ℕ) → value_in_rows rows.new.items p
         ≡ option_or (value_in_rows rows.old.items p)
         (given.value_by_group frame.now.symbols.now
         (get name_eq frame.now.variables.now) frame.now.arrays.now frame.now.common group.now p)) }
 {
-    let mut values = GroupValues::new(constants, group.values.as_slice());
-    add_targets(
-        alloc,
-        frame,
-        constants,
-        rows,
-        &mut values,
-        group.targets.as_slice(),
-    )
+    let mut values = GroupValues::new(frame.symbols.constants(), group.values.as_slice());
+    add_targets(alloc, frame, rows, &mut values, group.targets.as_slice())
 }

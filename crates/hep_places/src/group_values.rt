@@ -6,8 +6,8 @@ ghost use Rattle.hep_places.specs.CellRows.{Takes};
 ghost use Rattle.hep_places.specs.InitialValues.{all_values};
 ghost use Rattle.hep_places.specs.GroupValues.{AreNone, AreSame, left, repeated};
 
+use hep_names::{Constants, repeat_of, value_of_constant};
 use hep_source::{DataValue, Value};
-use hep_values::{Constants, repeat_of, value_of_constant};
 
 /// The values of a group that are left. A repeated value is counted down and not written out.
 #[derive(Drop)]

@@ -13,7 +13,6 @@ use crate::main_frame::MainFrame;
 use hep_accepted_laws::initial::places_are_local;
 use hep_conditions::laws;
 use hep_image::DataRow;
-use hep_values::named_constants::constants;
 use std::alloc::{AllocError, Global};
 
 // The rows of all groups, those of the last group first, since a later group overrides an earlier one.
@@ -22,11 +21,10 @@ fn rows_of(alloc: Global, frame: &MainFrame) -> Result<Vec<DataRow>, AllocError>
         ≡ given.value_by_groups frame.now.symbols.now (get name_eq frame.now.variables.now) frame.now.arrays.now frame.now.common
         (data_groups frame.now.symbols.now) p) }
 {
-    let constants = constants(alloc, frame.symbols)?;
     let mut groups = data_groups(alloc, frame.symbols.statements())?;
     let mut rows = Vec::new(alloc);
     while let Some(group) = groups.pop() {
-        add_group(alloc, frame, &constants, &mut rows, group)?;
+        add_group(alloc, frame, &mut rows, group)?;
     }
     Ok(rows)
 }

@@ -1,18 +1,17 @@
 //! The first storage units of the names of a unit (X3.9-1978, 2.13, 8.3.2 and 15.9.3).
 ghost use Rattle.std.specs.Prelude.{◌≡◌, IfOk};
 ghost use Rattle.indexmap.specs.IndexMap.{get};
-ghost use Rattle.hep_machine.specs.Words.{name_eq, value_among, constant_value};
+ghost use Rattle.hep_machine.specs.Words.{name_eq};
 ghost use Rattle.hep_places.specs.StorageStarts as found;
 
 use crate::block_offsets::offset_table;
 use crate::cell_numbers::{behind_pairs, further};
-use crate::frame_starts::{FrameStarts, SizeContext};
+use crate::frame_starts::FrameStarts;
 use crate::loop_cells::LoopCells;
 use hep_image::Start;
 use hep_names::Symbols;
 use hep_source::Name;
 use hep_storage::CommonStarts;
-use hep_values::Constants;
 use indexmap::IndexMap;
 use std::alloc::{AllocError, Global};
 use std::mem::replace;
@@ -40,23 +39,17 @@ impl Drop for StorageStarts {
 }
 
 // Dummy arguments follow the header, with two cells each; then come local variables, DOs and bounds.
-pub(crate) fn tables_of(
-    alloc: Global,
-    symbols: &Symbols,
-    constants: &Constants,
-) -> Result<StorageStarts, AllocError>
-    requires { value_among constants.now ≡ constant_value symbols.now }
+pub(crate) fn tables_of(alloc: Global, symbols: &Symbols) -> Result<StorageStarts, AllocError>
     ensures { IfOk result (found.AreTables symbols.now) }
 {
-    let sizes = SizeContext { symbols, constants };
     let first = behind_pairs(1, symbols.dummies().len());
     let mut locals = FrameStarts::new(alloc, first, symbols.locals().len())?;
-    locals.add_all(alloc, &sizes, symbols.locals())?;
+    locals.add_all(alloc, symbols, symbols.locals())?;
     let mut loops = LoopCells::new(alloc, locals.next);
     loops.add_statements(symbols.statements())?;
     let mut bounds = FrameStarts::new(alloc, loops.next, symbols.dummies().len())?;
-    bounds.add_all(alloc, &sizes, symbols.dummies())?;
-    let offsets = offset_table(alloc, symbols, constants)?;
+    bounds.add_all(alloc, symbols, symbols.dummies())?;
+    let offsets = offset_table(alloc, symbols)?;
     Ok(StorageStarts {
         offsets,
         locals: replace(&mut locals.table, IndexMap::new(alloc)),

@@ -20,7 +20,6 @@ use hep_code::Placement;
 use hep_image::{Array, DummyArgument, FrameVariable};
 use hep_names::Symbols;
 use hep_storage::CommonStarts;
-use hep_values::named_constants::constants;
 use std::alloc::{AllocError, Global};
 use std::mem::replace;
 
@@ -62,8 +61,7 @@ pub fn unit_places(
     constant_shapes();
     arrays_have_shapes();
     names_are_given_once();
-    let constants = constants(alloc, symbols)?;
-    let mut tables = tables_of(alloc, symbols, &constants)?;
+    let mut tables = tables_of(alloc, symbols)?;
     let names = symbols.names().as_slice();
     let places = Placement {
         variables: variables_among(alloc, symbols, common, &tables, names)?,
@@ -80,7 +78,6 @@ pub fn unit_places(
     let known = BoundContext {
         symbols,
         common,
-        constants: &constants,
         tables: &tables,
     };
     let arrays = arrays_among(alloc, &known, names)?;

@@ -10,12 +10,11 @@ use Rattle.hep_source.specs.declared.function.StateFunction.TheVariants.{IsFull,
 use Rattle.hep_machine.specs.declared.event.Fault.{Fault}
 use Rattle.hep_machine.specs.declared.event.Kind.{Kind}
 use Rattle.hep_machine.specs.declared.event.Kind.TheVariants.{Undefined}
-use Rattle.hep_source.specs.declared.value.Value.TheVariants.{Int}
 use Rattle.hep_machine.specs.declared.slot.Slot.{Slot}
 use Rattle.hep_machine.specs.Access as access
 use Rattle.hep_machine.specs.Evaluation.{reading}
 use Rattle.hep_machine.specs.Step.{gives}
-use Rattle.hep_machine.specs.Words.{Answer, Binding, Level, Location, Loop, Name, Next, Process, Redex, Reference, Scope, State, Store}
+use Rattle.hep_machine.specs.Words.{Answer, Binding, Level, Location, Loop, Name, Next, Process, Redex, Reference, Scope, State, Store, Int}
 use Rattle.hep_machine.specs.Words.{Top, Units, Value}
 use Rattle.hep_machine.specs.Words.{Actual, Dummy, Statement, binding_with_shapes, dummies_for, with_actuals, with_shapes, with_store}
 use Rattle.hep_machine.specs.Words.{Action, absent, stepped, waiting, StepResult, same_location, same_logical, further, with_cell}

@@ -4,8 +4,7 @@ use Rattle.std.proofs.lemmas.Bool.{false≢true}
 use Rattle.hep_advance.proofs.RunsToBreakpoint.{run-on}
 use Rattle.hep_layout.proofs.Memory.{location-self}
 use Rattle.hep_machine.proofs.Locations.{equal_locations}
-use Rattle.hep_machine.specs.Laws.{IsSameOrOneMore}
-use Rattle.hep_machine.specs.Words.{Location, State, Units, run, run_from, same_location, state_after_turn}
+use Rattle.hep_machine.specs.Words.{Location, State, Units, run, run_from, same_location, state_after_turn, IsSameOrOneMore}
 use Rattle.hep_views.specs.ListedProcesses.{place_of}
 use Rattle.hep_races.proofs.PlacesTold.{place-kept, there-kept}
 use Rattle.hep_races.specs.StoragePlaces.{IsThere}

@@ -3,7 +3,6 @@ use Rattle.std.specs.Prelude.{◌≡◌, ℕ, ◌+◌, List, [], ◌∷◌, map,
 use Rattle.std.specs.List.{flat_map}
 use Rattle.hep_machine.specs.Words.{BlockName, Name, Occurrence, Statement, Units, Value, cells_before, common_block}
 use Rattle.hep_machine.specs.Words.{constant_value, dimensions_of, dummies_of, index_among, names_in_block, occurrences_in_dimension}
-use Rattle.hep_machine.specs.Words.{value_among}
 use Rattle.hep_storage.specs.Starts.{AreBlocks}
 use Rattle.hep_views.specs.ListedProcesses.{block_place}
 use Rattle.hep_races.specs.declared.bound_names.BoundName.{BoundName}
@@ -43,7 +42,6 @@ AreBoundsOf program bounds = bounds.units ≡ map (bounds_of_unit program) progr
 
 -- the tables are those of a unit of the program
 pub record AreTablesOf (unit : UnitTables) : Type 0 where
-  pub constants : value_among unit.constants.now ≡ constant_value unit.symbols.now
   pub blocks : AreBlocks unit.image.now unit.blocks.now
   pub among : (u : ℕ) × (slice_get unit.image.now u ≡ Some unit.symbols.now)
 

@@ -1,19 +1,16 @@
 -- The event of a step, as it is read from a machine before the step and after it: docs/MACHINE.md, "The order of steps".
-use Rattle.std.specs.Prelude.{◌≡◌, ◌<◌, ℕ, suc, nat_lt, Bool, true, false, ◌&&◌, if◌then◌else◌, List, [], ◌∷◌, ◌++◌, length, map}
+use Rattle.std.specs.Prelude.{◌≡◌, ◌<◌, ℕ, suc, nat_lt, Bool, true, false, ◌&&◌, if◌then◌else◌, List, [], ◌∷◌, ◌++◌, length, map, Result}
 use Rattle.std.specs.Prelude.{Option, Some, None}
-use Rattle.std.specs.Prelude.{Result}
 use Rattle.std.specs.Prelude.{Ok, Err}
 use Rattle.std.specs.List.{list_any}
 use Rattle.std.specs.Option.{option_map, option_to_list}
-use Rattle.hep_source.specs.declared.function.StateFunction.{StateFunction}
-use Rattle.hep_source.specs.declared.function.StateFunction.TheVariants.{SetEmpty, WaitFull}
 use Rattle.hep_code.specs.declared.instruction.Evaluation.TheVariants.{Load, Test}
 use Rattle.hep_code.specs.declared.instruction.Operation.{Operation}
 use Rattle.hep_code.specs.declared.instruction.Operation.TheVariants.{Answer, EndLoop, EnterLoop, Evaluate, Store as Storing}
 use Rattle.hep_code.specs.Words.{is_asynchronous}
 use Rattle.hep_image.specs.Places.{variable_of as place_of_variable}
 use Rattle.hep_machine.specs.declared.event.Kind.{Kind}
-use Rattle.hep_machine.specs.Words.{Location, Name, Next, Reference, State, Store, Top, Units}
+use Rattle.hep_machine.specs.Words.{Location, Name, Next, Reference, State, Store, Top, Units, StateFunction, SetEmpty, WaitFull}
 use Rattle.hep_machine.specs.Words.{calling, creating, does, function_unit, location_of_name, names_of, referring, run, same_location}
 use Rattle.hep_machine.specs.Words.{scope_of, unit_called, unit_on_top, wants}
 use Rattle.hep_accesses.specs.Accesses.{Access, binding_accesses, need_on_top}

@@ -1,8 +1,7 @@
 //! The names in the bounds of adjustable dummy arrays, which CALL, CREATE and references read (X3.9-1978, 5.5.1).
 ghost use Rattle.std.specs.Prelude.{◌≡◌, ◌++◌, ◌+◌, ◌<◌, ℕ, IfOk, OnOk, Some, length, slice_get};
 ghost use Rattle.std.specs.List.{flat_map};
-ghost use Rattle.hep_machine.specs.Words.{cells_before, constant_value, names_in_block, occurrences_in_dimension};
-ghost use Rattle.hep_machine.specs.Words.{value_among};
+ghost use Rattle.hep_machine.specs.Words.{cells_before, names_in_block, occurrences_in_dimension};
 ghost use Rattle.hep_storage.specs.Starts.{AreBlocks};
 ghost use Rattle.hep_views.specs.ListedProcesses.{block_place};
 ghost use Rattle.hep_races.specs.NamesInBounds as words;
@@ -11,12 +10,10 @@ ghost use Rattle.hep_races.specs.NamesInBounds.{AreBoundsOf, AreTablesOf, IsInUn
 use hep_base::Sequence;
 use hep_image::{BlockStart, Image};
 use hep_names::occurrences::add_in_expression;
-use hep_names::{ProgramSymbols, Symbols};
+use hep_names::{ProgramSymbols, Symbols, cells_of};
 use hep_source::{Dimension, Name, Occurrence, UpperBound};
 use hep_state_text::names_in_block;
 use hep_storage::CommonBlocks;
-use hep_values::named_constants::constants;
-use hep_values::{Constants, cells_of};
 use hep_views::Place;
 use std::alloc::{AllocError, Global};
 
@@ -48,7 +45,6 @@ struct UnitTables<'a> {
     image: &'a Image,
     blocks: &'a CommonBlocks,
     symbols: &'a Symbols<'a>,
-    constants: &'a Constants,
 }
 
 // ---- names
@@ -104,7 +100,6 @@ fn cells_before(
     name: Name,
     list: &[Name],
 ) -> Result<u32, AllocError>
-    requires { value_among unit.now.constants.now ≡ constant_value unit.now.symbols.now }
     ensures { IfOk result (λ cells. cells ≡ cells_before unit.now.symbols.now name list.now) }
 {
     let mut cells: u32 = 0;
@@ -112,7 +107,7 @@ fn cells_before(
         if name == *other {
             return Ok(cells);
         }
-        let more = cells_of(alloc, unit.symbols, unit.constants, other)?;
+        let more = cells_of(alloc, unit.symbols, other)?;
         cells = cells.checked_add(more).ok_or(AllocError)?;
     }
     Ok(cells)
@@ -149,7 +144,7 @@ fn source_of(
     requires { AreTablesOf unit.now }
     ensures { IfOk result (λ source. source ≡ words.source_of unit.now.image.now unit.now.symbols.now name) }
 {
-    if unit.constants.get(&name).is_some() {
+    if unit.symbols.constants().get(&name).is_some() {
         return Ok(None);
     }
     if let Some(index) = unit.symbols.dummy_position(&name) {
@@ -190,12 +185,10 @@ fn names_of_unit(
     requires among { (u : ℕ) × (slice_get image.now u ≡ Some symbols.now) }
     ensures { IfOk result (λ names. names.items ≡ words.bounds_of_unit image.now symbols.now) }
 {
-    let constants = constants(alloc, symbols)?;
     let unit = UnitTables {
         image,
         blocks,
         symbols,
-        constants: &constants,
     };
     let found = occurrences_in_bounds(alloc, symbols)?;
     let mut names = Vec::new(alloc);

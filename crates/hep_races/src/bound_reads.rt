@@ -1,7 +1,7 @@
 //! What a CALL, CREATE or reference reads of the names in bounds of adjustable dummy arrays (X3.9-1978, 5.5.1).
 ghost use Rattle.std.specs.Prelude.{◌≡◌, ◌++◌, ℕ, IfOk, List, OnOk, Some, map, option_map, slice_get};
 ghost use Rattle.std.specs.Option.{option_to_list};
-ghost use Rattle.hep_machine.specs.Words.{Level, Process as SourceProcess, run, unit_at};
+ghost use Rattle.hep_machine.specs.Words.{Level, Process as SourceProcess, unit_at};
 ghost use Rattle.hep_step.specs.NextCalls.{last_operands};
 ghost use Rattle.hep_trace.specs.References.{IsAhead, top_after};
 ghost use Rattle.hep_views.specs.ListedProcesses.{place_of};

@@ -34,6 +34,8 @@ pub struct RaceObserver {
     bounds: BoundNames,
     // The indexes of the code from which a step is observed.
     watches: Vec<Breakpoints>,
+    // The accesses of the step that was observed last. Its room is used again for the next one.
+    accesses: Vec<Access>,
     pub(crate) sites: SiteTable,
     pub(crate) detector: Detector,
 }
@@ -47,6 +49,7 @@ impl Drop for RaceObserver {
             names,
             bounds,
             watches,
+            accesses,
             sites,
             detector,
         } = self;
@@ -136,20 +139,19 @@ fn append_accesses(
     Ok(())
 }
 
-// The accesses of a step with the numbers of their sites.
-fn numbered(
-    alloc: Global,
+// Puts the accesses of a step, with the numbers of their sites, in the place of others.
+fn number_accesses(
     sites: &mut SiteTable,
+    numbered: &mut Vec<Access>,
     step: &ObservedStep,
-) -> Result<Vec<Access>, AllocError>
-    ensures numbered { IfOk result (λ numbered.
-        AreNumbered sites.new (option_to_list step.now.access ++ step.now.bounds.items) numbered.items) }
+) -> Result<(), AllocError>
+    ensures numbered { OnOk result (AreNumbered sites.new (option_to_list step.now.access ++ step.now.bounds.items) numbered.new.items) }
     ensures kept { OnOk result ((more : List Site) × (sites.new ≡ sites.old ++ more)) }
 {
-    let mut numbered = Vec::new(alloc);
-    append_named(sites, &mut numbered, step.access)?;
-    append_accesses(sites, &mut numbered, &step.bounds)?;
-    Ok(numbered)
+    numbered.clear();
+    append_named(sites, numbered, step.access)?;
+    append_accesses(sites, numbered, &step.bounds)?;
+    Ok(())
 }
 
 // Whether there was one process alone so far. Its steps race with nothing, since it makes each other process after them.
@@ -179,6 +181,7 @@ impl RaceObserver {
             names,
             bounds,
             watches,
+            accesses: Vec::new(alloc),
             sites: SiteTable::new(alloc),
             detector: Detector::new(alloc),
         })
@@ -233,13 +236,13 @@ impl Observer for RaceObserver {
         let mut step = look;
         step.end(machine);
         let changes = units_of(self.alloc, &step.changes)?;
-        let accesses = numbered(self.alloc, &mut self.sites, &step)?;
+        number_accesses(&mut self.sites, &mut self.accesses, &step)?;
         let event = StepEvent {
             process: step.process,
             makes: step.makes,
             needs: unit_needed(step.needs),
             changes: &changes,
-            accesses: &accesses,
+            accesses: &self.accesses,
         };
         self.detector.observe(&event)?;
         Ok(())

@@ -2,7 +2,7 @@
 ghost use Rattle.std.specs.Prelude.{◌≡◌, ◌+◌, [], IfOk, OnOk, map, nat_eq};
 ghost use Rattle.std.specs.Option.{option_copied};
 ghost use Rattle.indexmap.specs.IndexMap.{values};
-ghost use Rattle.hep_accesses.specs.Races.{from_same_site, with_pair};
+ghost use Rattle.hep_accesses.specs.Races.{with_pair};
 ghost use Rattle.hep_races.specs.Observed.{row_in, step_access_in};
 ghost use Rattle.hep_races.specs.RowTables.{AreUnderSites, next_row, pair_of, site_code};
 

@@ -9,7 +9,7 @@ use Rattle.hep_base.specs.declared.refusal.Refusal.{Refusal as Told}
 use Rattle.hep_base.specs.declared.refusal.Refusal.TheVariants as told
 use Rattle.hep_machine.specs.Words.{Units}
 use Rattle.hep_run.specs.Memory.{IsWant, MayReadOn, tells_large}
-use Rattle.hep_run.specs.Notes.{AreNotes, line_notes_when}
+use Rattle.hep_run.specs.Notes.{line_notes_when}
 use Rattle.hep_outcome.proofs.Wanted.{none-there}
 use Rattle.hep_run.specs.Outcome.{refused}
 use Rattle.hep_run.specs.Refusals.{IsRefusal, noted}

@@ -11,8 +11,7 @@ use Rattle.hep_layout.specs.Words.{IsOwnedAbove, address, argument, first_of_par
 use Rattle.hep_layout.proofs.Addresses.{address-out}
 use Rattle.hep_layout.proofs.References.{references}
 use Rattle.hep_layout.proofs.Telling.{tells-first, tells-rest, tells-value}
-use Rattle.hep_machine.specs.Words.{Dummy, Layout, Location, Name, Occurrence, State, Statement, Units, activation_of, dummies_of, dummy_at, index_among, is_owned, main_among, names_of_occurrences, run, scope_of, spelling}
-use Rattle.hep_machine.specs.Words.{storage_by_dummy, storage_of, unit_at, unit_of, unset_cell}
+use Rattle.hep_machine.specs.Words.{Dummy, Layout, Location, Name, Occurrence, State, Statement, Units, activation_of, dummies_of, dummy_at, index_among, is_owned, main_among, names_of_occurrences, run, scope_of, spelling, storage_by_dummy, storage_of, unit_at, unit_of, unset_cell}
 use Rattle.hep_machine.specs.declared.slot.Slot.{Slot}
 use Rattle.hep_state.specs.declared.core_state.CoreState.{CoreState}
 use Rattle.hep_state_text.specs.Associations.{IsDummyAt, IsStackedAt, association_line}
@@ -139,7 +138,7 @@ module _ (frame : StackedFrame) (cell cells : ℕ) (choices : List ℕ) (a : ℕ
 -- ---- a dummy argument in the loop over those of an activation
 
 module _ (frame : StackedFrame) (unit : NamedUnit) (cells : ℕ) (choices : List ℕ) (a : ℕ) (h : IsStackedAt frame unit cells choices a)
-    (ds : List Occurrence) (ds-are : names_of_occurrences ds ≡ dummies_of unit.names.symbols.now) (i : ℕ) (d : Occurrence) (less : i < length ds) where
+    (ds : List Occurrence) (ds-are : names_of_occurrences ds ≡ dummies_of unit.symbols.now) (i : ℕ) (d : Occurrence) (less : i < length ds) where
   -- its first cell is where the code has it
   pub dummy-at : (vs : List FrameVariable) → vs ≡ unit.code.now.variables → (v : FrameVariable) (first : ℕ) → first ≡ h.under.node.first
       → IsDummyAt frame (first + (get_or vs i v).first) cells choices a (get_or ds i d).name

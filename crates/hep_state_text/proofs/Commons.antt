@@ -23,7 +23,7 @@ use Rattle.hep_storage.proofs.Entries.{all-append}
 
 module _ (program : Units) (s : State) (layout : Layout) (block : NamedBlock) (arena : Space) (h : IsBlockAt program s layout block arena) (i : ℕ) (d : Name) (less : i < length block.list.now) where
   abbrev unit : List Statement
-  unit = block.names.symbols.now
+  unit = block.symbols.now
 
   abbrev x : Name
   x = get_or block.list.now i d
@@ -74,9 +74,9 @@ taken-few unit (x ∷ xs) zero = omega arith
 taken-few unit (x ∷ xs) (suc i) = let rest = taken-few unit xs i in omega (arith, rest)
 
 pub next-fits : (program : Units) (s : State) (layout : Layout) (block : NamedBlock) (arena : Space) (h : IsBlockAt program s layout block arena) (i : ℕ) (d : Name) → i < length block.list.now
-    → (at cells : ℕ) → at ≡ block.first + cells_of_all block.names.symbols.now (take i block.list.now) → cells ≡ cells_of block.names.symbols.now (get_or block.list.now i d) → at + cells < 2 ^ 32
+    → (at cells : ℕ) → at ≡ block.first + cells_of_all block.symbols.now (take i block.list.now) → cells ≡ cells_of block.symbols.now (get_or block.list.now i d) → at + cells < 2 ^ 32
 next-fits program s layout block arena h i d less at cells placed counted =
-    let unit = block.names.symbols.now in
+    let unit = block.symbols.now in
     let next = taken-next unit block.first block.list.now i d less at cells placed counted in
     let few = taken-few unit block.list.now (i + 1) in
     let all = ap (cells_of_all unit) h.list_is in

@@ -9,8 +9,7 @@ use Rattle.hep_accepted_laws.proofs.NameMeanings.{name_once}
 use Rattle.hep_conditions.specs.Words.{IsAccepted, common_names}
 use Rattle.hep_source.proofs.NameTests.{equal_names, same_name-self}
 use Rattle.hep_machine.proofs.Locations.{equal_blocks}
-use Rattle.hep_machine.specs.Words.{BlockName, CommonBlock, Declarator, Name, Statement, Units, block_holding, block_of, blocks_of_unit, cells_before, cells_of, cells_of_all, common_block, entries_under, is_among, names_declared, names_in_block, same_block, same_name}
-use Rattle.hep_machine.specs.Declarations.{blocks_in}
+use Rattle.hep_machine.specs.Words.{BlockName, CommonBlock, Declarator, Name, Statement, Units, block_holding, block_of, blocks_of_unit, cells_before, cells_of, cells_of_all, common_block, entries_under, is_among, names_declared, names_in_block, same_block, same_name, blocks_in}
 use Rattle.hep_accepted_laws.proofs.Members.{has_among}
 use Rattle.hep_code.specs.Sources.{IsNamedOnce}
 

@@ -1,12 +1,11 @@
 -- Where the blocks of a program are, in the machine that runs it.
 use Rattle.std.proofs.Common.{◌≡◌, ℕ, zero, suc, ◌<◌, true, List, [], ◌∷◌, ◌++◌, length, Some, sym, ap, ◌∙◌, subst, append_assoc, arith, slice_get, get_or}
-use Rattle.std.specs.List.{flat_map}
+use Rattle.std.specs.List.{flat_map, list_any}
 use Rattle.std.proofs.lemmas.Bool.{or_left, or_right}
-use Rattle.std.specs.List.{list_any}
 use Rattle.std.proofs.lemmas.Option.{get_or_from_slice_get, none-some, same_Some, slice_get-get_or}
 use Rattle.hep_conditions.specs.Words.{IsAccepted}
 use Rattle.hep_machine.proofs.Locations.{block-self}
-use Rattle.hep_machine.specs.Words.{BlockName, Name, State, Statement, Units, block_spelling, constant_value, is_block_among, names_in_block, run, same_block, unit_name, value_among}
+use Rattle.hep_machine.specs.Words.{BlockName, Name, State, Statement, Units, block_spelling, is_block_among, names_in_block, run, same_block, unit_name}
 use Rattle.hep_proc.specs.declared.frames.Frames.{Frames}
 use Rattle.hep_state.specs.declared.core_state.CoreState.{CoreState}
 use Rattle.hep_state.specs.Words.{IsMachineAfter}
@@ -41,16 +40,15 @@ module _ (storage : StateStorage) (m : CoreState) (is : IsStorageOf storage m) (
     few = omega (arith, h.few, h.after.size);
   })
 
-  pub block-at : (e : Extent) → IsExtentOf program e → (u : ℕ) (block : NamedBlock) → slice_get program u ≡ Some block.names.symbols.now
-      → value_among block.names.constants.now ≡ constant_value block.names.symbols.now → block.list.now ≡ names_in_block block.names.symbols.now e.block → block.first ≡ e.first
+  pub block-at : (e : Extent) → IsExtentOf program e → (u : ℕ) (block : NamedBlock) → slice_get program u ≡ Some block.symbols.now
+      → block.list.now ≡ names_in_block block.symbols.now e.block → block.first ≡ e.first
       → IsBlockAt program s h.after.layout block storage.frames.now.arena
-  block-at e extent u block there constants list first =
+  block-at e extent u block there list first =
       record {
         is_of = arena-is;
         accepted = accepted;
         unit = u;
         unit_is = there;
-        constants = constants;
         of = e.block;
         list_is = list;
         first_is = first ∙ extent.first;

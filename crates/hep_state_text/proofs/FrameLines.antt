@@ -8,7 +8,7 @@ use Rattle.hep_accepted_laws.proofs.Closed.{units-there}
 use Rattle.hep_conditions.specs.Words.{IsAccepted}
 use Rattle.hep_image.specs.Image.{IsUnitCode}
 use Rattle.hep_layout.specs.Words.{FrameNode, is_stacked}
-use Rattle.hep_machine.specs.Words.{Layout, State, Statement, Units, constant_value, dummies_of, is_held, locals_of, main_among, no_activation, run, scope_of, unit_at, unit_name, unit_of, value_among}
+use Rattle.hep_machine.specs.Words.{Layout, State, Statement, Units, dummies_of, is_held, locals_of, main_among, no_activation, run, scope_of, unit_at, unit_name, unit_of}
 use Rattle.hep_proc.specs.Nodes.{nodes_of}
 use Rattle.hep_proc.specs.declared.frames.Frames.{Frames}
 use Rattle.hep_state.specs.declared.core_state.CoreState.{CoreState}
@@ -36,14 +36,13 @@ symbols-are program units number u symbols is all same inside =
 
 module _ (storage : StateStorage) (s : State) (layout : Layout) (a key : ℕ) (h : IsFrameUnder storage s layout a key) where
   -- the frame, by what is read of it
-  pub frame-at : (unit : NamedUnit) (number first : ℕ) (units : Units) → number ≡ h.node.unit → first ≡ h.node.first → units ≡ storage.symbols.now → unit.names.symbols.now ≡ get_or units number unit.names.symbols.now
-      → value_among unit.names.constants.now ≡ constant_value unit.names.symbols.now → IsUnitCode storage.image.now number unit.code.now → IsFrameAt storage.image.now s layout a unit first storage.frames.now.arena
-  frame-at unit number first units number_is first_is units_are read constants code =
+  pub frame-at : (unit : NamedUnit) (number first : ℕ) (units : Units) → number ≡ h.node.unit → first ≡ h.node.first → units ≡ storage.symbols.now → unit.symbols.now ≡ get_or units number unit.symbols.now
+      → IsUnitCode storage.image.now number unit.code.now → IsFrameAt storage.image.now s layout a unit first storage.frames.now.arena
+  frame-at unit number first units number_is first_is units_are read code =
       let same : number ≡ unit_of s a = number_is ∙ h.unit in
       record {
         is_of = subst (λ n. IsFrameOf storage.image.now s layout a n storage.frames.now.arena) (sym first_is) h.frame;
-        symbols = symbols-are storage.image.now units number (unit_of s a) unit.names.symbols.now read (units_are ∙ h.symbols) same h.inside;
-        constants = constants;
+        symbols = symbols-are storage.image.now units number (unit_of s a) unit.symbols.now read (units_are ∙ h.symbols) same h.inside;
         code = subst (λ n. IsUnitCode storage.image.now n unit.code.now) same code;
       }
 

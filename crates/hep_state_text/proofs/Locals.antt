@@ -20,7 +20,7 @@ use Rattle.hep_state_text.specs.declared.activations.NamedUnit.{NamedUnit}
 use Rattle.hep_state_text.proofs.Owned.{among-at, local-at, local-kept, own-is, part-few}
 
 module _ (program : Units) (s : State) (layout : Layout) (a : ℕ) (unit : NamedUnit) (first : ℕ) (arena : Space) (h : IsFrameAt program s layout a unit first arena)
-    (xs : List Name) (xs-are : xs ≡ locals_of unit.names.symbols.now) (i : ℕ) (d : Name) (less : i < length xs) where
+    (xs : List Name) (xs-are : xs ≡ locals_of unit.symbols.now) (i : ℕ) (d : Name) (less : i < length xs) where
   abbrev own : List Statement
   own = unit_at program (unit_of s a)
 
@@ -31,10 +31,10 @@ module _ (program : Units) (s : State) (layout : Layout) (a : ℕ) (unit : Named
   there = ap (λ zs. slice_get zs i) (sym (xs-are ∙ ap locals_of h.symbols)) ∙ slice_get-get_or xs i d less
 
   -- it is the next one
-  pub next-is : drop i (locals_of unit.names.symbols.now) ≡ x ∷ drop (i + 1) (locals_of unit.names.symbols.now)
+  pub next-is : drop i (locals_of unit.symbols.now) ≡ x ∷ drop (i + 1) (locals_of unit.symbols.now)
   next-is = ap (drop i) (sym xs-are) ∙ drop_more xs i d less ∙ ap (λ zs. x ∷ drop (i + 1) zs) xs-are
 
-  module _ (vs : List FrameVariable) (vs-are : vs ≡ unit.code.now.variables) (ds : List Occurrence) (ds-are : names_of_occurrences ds ≡ dummies_of unit.names.symbols.now) (v : FrameVariable) where
+  module _ (vs : List FrameVariable) (vs-are : vs ≡ unit.code.now.variables) (ds : List Occurrence) (ds-are : names_of_occurrences ds ≡ dummies_of unit.symbols.now) (v : FrameVariable) where
     pub first-is : (get_or vs (length ds + i) v).first ≡ first_of_part own (variable x)
     first-is =
         let count : length ds ≡ length (dummies_of own) = sym (length-map ds (λ (p : Occurrence). p.name)) ∙ ap length (ds-are ∙ ap dummies_of h.symbols) in
@@ -48,7 +48,7 @@ module _ (program : Units) (s : State) (layout : Layout) (a : ℕ) (unit : Named
         let inside = (among (length arena.contents) (common_cells program) a layout h.is_of.frame h.is_of.is_of.memory.laid.apart h.is_of.framed).inside in
         omega (arith, inside, h.is_of.first_is, h.is_of.is_of.few, first-is, part-few own (variable x), h.code.cells, h.code.few_cells)
 
-    pub kept : (cells : ℕ) → cells ≡ cells_of unit.names.symbols.now x → AreKeptFrom program s layout (local a x 1) cells (first + (get_or vs (length ds + i) v).first) arena
+    pub kept : (cells : ℕ) → cells ≡ cells_of unit.symbols.now x → AreKeptFrom program s layout (local a x 1) cells (first + (get_or vs (length ds + i) v).first) arena
     kept cells counted =
         let k = local-kept program s layout a first arena h.is_of x (among-at (locals_of own) i x there) in
         record {
@@ -56,7 +56,7 @@ module _ (program : Units) (s : State) (layout : Layout) (a : ℕ) (unit : Named
           runs = λ n small. k.runs n (subst (λ m. n < m) (counted ∙ ap (λ u. cells_of u x) h.symbols) small) ∙ ap (λ m. Some (first + m + n)) (sym first-is);
         }
 
-  pub line-is : (var : DisplayedVariable) (slots : List Slot) (cells : ℕ) → IsOwn unit.names.symbols.now x var → cells ≡ cells_of unit.names.symbols.now x → slots ≡ slots_at s.store (local a x 1) cells
+  pub line-is : (var : DisplayedVariable) (slots : List Slot) (cells : ℕ) → IsOwn unit.symbols.now x var → cells ≡ cells_of unit.symbols.now x → slots ≡ slots_at s.store (local a x 1) cells
       → variable_text var.name var.asynchronous var.bounds.items slots ≡ words.own_text program s (scope_of program s a) x
   line-is var slots cells own-var counted e =
       own-is program s a x var slots (among-at (locals_of own) i x there) (subst (λ u. IsOwn u x var) h.symbols own-var)

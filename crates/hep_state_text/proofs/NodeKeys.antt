@@ -68,22 +68,12 @@ stay-both a b c h k = record { count = k.count ∙ h.count; still = λ i n. k.st
 -- ---- the parent of one that is noted
 
 module _ (nodes : Nodes) where
-  pub closed-kept : (old new : List (Option ℕ)) (i : ℕ) → IsClosedAt nodes old i → slice_get new i ≡ slice_get old i → StayNoted old new → IsClosedAt nodes new i
-  closed-kept old new i closed same stay key above n m e there parent here = stay.still (m.activation - 1) (closed key above n m (sym same ∙ e) there parent here)
-
-  pub closed-none : (keys : List (Option ℕ)) (i : ℕ) → slice_get keys i ≡ Some None → IsClosedAt nodes keys i
-  closed-none keys i none key above n m e there parent here = absurd (none-some key (same_Some None (Some key) (sym none ∙ e)))
-
   -- what is noted at an index is one key with one node
   same-node : (keys : List (Option ℕ)) (i key other : ℕ) (n m : FrameNode) → slice_get keys i ≡ Some (Some key) → slice_get keys i ≡ Some (Some other)
       → nodes key ≡ Some n → nodes other ≡ Some m → n ≡ m
   same-node keys i key other n m e f there here =
       let same : key ≡ other = same_Some key other (same_Some (Some key) (Some other) (sym e ∙ f)) in
       same_Some n m (sym there ∙ ap nodes same ∙ here)
-
-  pub closed-root : (keys : List (Option ℕ)) (i key : ℕ) (n : FrameNode) → slice_get keys i ≡ Some (Some key) → nodes key ≡ Some n → n.parent ≡ None → IsClosedAt nodes keys i
-  closed-root keys i key n e there root other above m up f here parent found =
-      absurd (none-some above (sym root ∙ ap (λ (z : FrameNode). z.parent) (same-node keys i key other n m e f there here) ∙ parent))
 
   pub closed-parent : (keys : List (Option ℕ)) (i key above : ℕ) (n up : FrameNode) → slice_get keys i ≡ Some (Some key) → nodes key ≡ Some n → n.parent ≡ Some above → nodes above ≡ Some up
       → up.activation - 1 < i → i < length keys → IsClosedAt nodes (slice_set keys (up.activation - 1) (Some above)) i

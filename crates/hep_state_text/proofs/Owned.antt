@@ -8,8 +8,7 @@ use Rattle.hep_machine.specs.declared.slot.Slot.{Slot}
 use Rattle.hep_arena.specs.Space.{Space}
 use Rattle.hep_source.proofs.NameTests.{same_name-self}
 use Rattle.hep_source.proofs.Tests.{at-front}
-use Rattle.hep_layout.specs.Words.{FramePart, RunsFrom, argument, first_of_part, number, variable}
-use Rattle.hep_layout.specs.Rows.{frame_row, same_part}
+use Rattle.hep_layout.specs.Words.{FramePart, RunsFrom, argument, first_of_part, number, variable, frame_row, same_part}
 use Rattle.hep_layout.proofs.FrameRows.{argument-first, first-size, frame_row-cells}
 use Rattle.hep_layout.proofs.Frames.{among}
 use Rattle.hep_layout.proofs.Memory.{frame-is-out}

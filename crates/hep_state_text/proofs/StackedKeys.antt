@@ -5,8 +5,7 @@ use Rattle.std.proofs.lemmas.Option.{none-some, same_Some}
 use Rattle.std.proofs.lemmas.List.{reverse-reverse}
 use Rattle.hep_layout.specs.Words.{FrameNode, Nodes, is_stacked}
 use Rattle.hep_layout.proofs.FrameTree.{on-stacked, stacked-on}
-use Rattle.hep_machine.specs.Words.{Value, Units, activations_on, is_number_among, numbered, run, State}
-use Rattle.hep_machine.specs.State.{Process as SourceProcess}
+use Rattle.hep_machine.specs.Words.{Value, Units, activations_on, is_number_among, numbered, run, State, Process as SourceProcess}
 use Rattle.hep_proc.specs.declared.process.Local.{Local}
 use Rattle.hep_proc.specs.declared.process.Process.{Process}
 use Rattle.hep_proc.specs.Nodes.{nodes_of}

@@ -2,9 +2,8 @@
 use Rattle.std.proofs.Common.{◌≡◌, ℕ, ◌+◌, ◌-◌, List, [], ◌∷◌, ◌++◌, drop, length, take, Option, Some, None, refl, sym, ap, ◌∙◌, subst, arith, ◌<◌, get_or, reverse}
 use Rattle.std.specs.Option.{unwrap_or}
 use Rattle.std.proofs.lemmas.List.{drop_more, get_or-reverse, length-reverse}
-use Rattle.hep_machine.specs.Words.{Name, Value, Truth, Units, function_name, line_at, level_after_statement, plug_work, unit_at, unit_name, unit_of, Process, State}
+use Rattle.hep_machine.specs.Words.{Name, Value, Truth, Units, function_name, line_at, level_after_statement, plug_work, unit_at, unit_name, unit_of, Process, State, Level as SourceLevel}
 use Rattle.std.specs.Prelude.{true}
-use Rattle.hep_machine.specs.State.{Level as SourceLevel}
 use Rattle.hep_code.specs.Words.{Awaits, Stands, line_ahead}
 use Rattle.hep_code.proofs.CodePositions.{StandsAt, after_statement_keeps, after_statement_stands}
 use Rattle.hep_layout.specs.Words.{FrameNode, Nodes}

@@ -16,7 +16,7 @@ use Rattle.hep_state_text.specs.declared.activations.NamedUnit.{NamedUnit}
 use Rattle.hep_state_text.proofs.Owned.{argument-at, dummy-out, value-is}
 
 module _ (program : Units) (s : State) (layout : Layout) (a : ℕ) (unit : NamedUnit) (first : ℕ) (arena : Space) (h : IsFrameAt program s layout a unit first arena)
-    (ds : List Occurrence) (ds-are : names_of_occurrences ds ≡ dummies_of unit.names.symbols.now) (i : ℕ) (d : Occurrence) (less : i < length ds) where
+    (ds : List Occurrence) (ds-are : names_of_occurrences ds ≡ dummies_of unit.symbols.now) (i : ℕ) (d : Occurrence) (less : i < length ds) where
   abbrev own : List Statement
   own = unit_at program (unit_of s a)
 
@@ -30,7 +30,7 @@ module _ (program : Units) (s : State) (layout : Layout) (a : ℕ) (unit : Named
       ∙ slice_get-map (λ (p : Occurrence). p.name) ds i ∙ ap (option_map (λ (p : Occurrence). p.name)) (slice_get-get_or ds i d less)
 
   -- it is the next one
-  pub next-is : drop i (dummies_of unit.names.symbols.now) ≡ x ∷ drop (i + 1) (dummies_of unit.names.symbols.now)
+  pub next-is : drop i (dummies_of unit.symbols.now) ≡ x ∷ drop (i + 1) (dummies_of unit.symbols.now)
   next-is =
       let inside : i < length (dummies_of own) = omega (arith, less, length-map ds (λ (p : Occurrence). p.name), ap length (ds-are ∙ ap dummies_of h.symbols)) in
       ap (λ u. drop i (dummies_of u)) h.symbols ∙ drop_more (dummies_of own) i x inside

@@ -3,7 +3,7 @@ use Rattle.std.specs.Prelude.{◌≡◌, ℕ, true, Some, slice_get}
 use Rattle.hep_arena.specs.Space.{Space}
 use Rattle.hep_conditions.specs.Words.{IsAccepted}
 use Rattle.hep_layout.specs.Words.{first_of_block}
-use Rattle.hep_machine.specs.Words.{BlockName, Layout, State, Units, block_cells, blocks_of, constant_value, is_block_among, names_in_block, value_among}
+use Rattle.hep_machine.specs.Words.{BlockName, Layout, State, Units, block_cells, blocks_of, is_block_among, names_in_block}
 use Rattle.hep_state_text.specs.StoredVariables.{IsArenaOf}
 use Rattle.hep_state_text.specs.declared.common_variables.NamedBlock.{NamedBlock}
 use Rattle.hep_state_text.specs.declared.common_variables.Extent.{Extent}
@@ -19,10 +19,9 @@ pub record IsBlockAt (program : Units) (s : State) (layout : Layout) (block : Na
   pub is_of : IsArenaOf program s layout arena
   pub accepted : IsAccepted program
   pub unit : ℕ
-  pub unit_is : slice_get program unit ≡ Some block.names.symbols.now
-  pub constants : value_among block.names.constants.now ≡ constant_value block.names.symbols.now
+  pub unit_is : slice_get program unit ≡ Some block.symbols.now
   pub of : BlockName
-  pub list_is : block.list.now ≡ names_in_block block.names.symbols.now of
+  pub list_is : block.list.now ≡ names_in_block block.symbols.now of
   pub first_is : block.first ≡ first_of_block program of
 
 abbrev pub IsBlockSomewhere : NamedBlock → Space → Type 0

@@ -3,9 +3,7 @@ use Rattle.std.specs.Prelude.{ℕ, suc, if◌then◌else◌, Bool, nat_eq, List,
 use Rattle.std.specs.List.{flat_map}
 use Rattle.hep_machine.specs.declared.event.Entry.{Entry}
 use Rattle.hep_machine.specs.declared.slot.Slot.{Slot}
-use Rattle.hep_machine.specs.Words.{Name, Statement, block_spelling, spelling, Units, unit_at, unit_name, function_name, line_at, dummies_of, locals_of, is_array, BlockName, blocks_of, block_cells, cells_of_all, names_in_block}
-use Rattle.hep_machine.specs.Words.{Activation, Level, Process, State, Location, local, common, Store, unit_of, Wanted, wanted_by, level_after_statement, is_held, is_number_among}
-use Rattle.hep_machine.specs.Words.{Scope, StorageSequence, own_storage, storage_of, scope_of, CellView, cells_at, is_owned, progress_after, state_after}
+use Rattle.hep_machine.specs.Words.{Name, Statement, block_spelling, spelling, Units, unit_at, unit_name, function_name, line_at, dummies_of, locals_of, is_array, BlockName, blocks_of, block_cells, cells_of_all, names_in_block, Activation, Level, Process, State, Location, local, common, Store, unit_of, Wanted, wanted_by, level_after_statement, is_held, is_number_among, Scope, StorageSequence, own_storage, storage_of, scope_of, CellView, cells_at, is_owned, progress_after, state_after}
 use Rattle.hep_layout.specs.Words.{is_stacked}
 use Rattle.hep_state_text.specs.Lines as lines
 use Rattle.hep_state_text.specs.Lines.{LevelText}

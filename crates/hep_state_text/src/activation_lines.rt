@@ -11,9 +11,7 @@ use crate::associations::{StackedFrame, append_associations};
 use crate::held_activations::{held_keys, stacked_keys};
 use crate::laws::dummies_are_those_of_units;
 use crate::lines::append_activation;
-use crate::names::UnitSymbols;
 use crate::storage::StateStorage;
-use hep_values::named_constants::constants;
 use hep_views::CoreState;
 use std::alloc::{AllocError, Global};
 
@@ -39,13 +37,8 @@ fn append_frame(
     let frames = storage.frames;
     let number = frames.unit(held.key);
     let symbols = &storage.symbols.units()[number as usize];
-    let constants = constants(alloc, symbols)?;
-    let names = UnitSymbols {
-        symbols,
-        constants: &constants,
-    };
     let code = storage.image.unit(number as usize);
-    let unit = NamedUnit { names, code };
+    let unit = NamedUnit { symbols, code };
     let first = frames.first(held.key);
     let name = unit_name(storage.image, number);
     append_activation(text, frames.activation(held.key), name)?;

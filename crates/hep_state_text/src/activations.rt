@@ -9,20 +9,19 @@ ghost use Rattle.hep_machine.specs.Words as names;
 ghost use Rattle.hep_state_text.specs.States as words;
 
 use crate::cell_slots::slots;
-use crate::names::UnitSymbols;
 use crate::variable::append_variable;
 use crate::variables::{own_variable, scalar_variable};
 use hep_image::{Image, UnitCode};
 use hep_machine::Slot;
+use hep_names::{Symbols, cells_of};
 use hep_proc::Frames;
 use hep_source::Name;
-use hep_values::cells_of;
 use std::alloc::{AllocError, Global};
 
 /// A unit: its names, and its code.
 #[derive(Clone, Copy)]
 pub struct NamedUnit<'a> {
-    pub names: UnitSymbols<'a>,
+    pub symbols: &'a Symbols<'a>,
     pub code: &'a UnitCode,
 }
 
@@ -41,13 +40,13 @@ pub fn append_locals(
     requires { IsFrameSomewhere unit.now first frames.now.arena }
     ensures { OnOk result ((program : Units) (s : State) (layout : Layout) (a : ℕ)
         → IsFrameAt program s layout a unit.now first frames.now.arena
-        → text.new.items ≡ text.old.items ++ flat_map (words.own_text program s (scope_of program s a)) (locals_of unit.now.names.symbols.now)) }
+        → text.new.items ≡ text.old.items ++ flat_map (words.own_text program s (scope_of program s a)) (locals_of unit.now.symbols.now)) }
 {
-    let names = unit.names;
-    let dummies = names.symbols.dummies().len();
-    for (index, name) in names.symbols.locals().iter().enumerate() {
-        let variable = own_variable(alloc, &names, name)?;
-        let cells = cells_of(alloc, names.symbols, names.constants, name)?;
+    let symbols = unit.symbols;
+    let dummies = symbols.dummies().len();
+    for (index, name) in symbols.locals().iter().enumerate() {
+        let variable = own_variable(alloc, symbols, name)?;
+        let cells = cells_of(alloc, symbols, name)?;
         let at = first + unit.code.variables.as_slice()[dummies + index].first;
         let slots = slots(alloc, frames, at, cells)?;
         append_variable(text, &variable, &slots)?;
@@ -100,9 +99,9 @@ pub fn append_values(
     ensures { OnOk result ((program : Units) (s : State) (layout : Layout) (a : ℕ)
         → IsFrameAt program s layout a unit.now first frames.now.arena
         → text.new.items
-        ≡ text.old.items ++ flat_map (words.value_text program s (scope_of program s a)) (dummies_of unit.now.names.symbols.now)) }
+        ≡ text.old.items ++ flat_map (words.value_text program s (scope_of program s a)) (dummies_of unit.now.symbols.now)) }
 {
-    for (index, dummy) in unit.names.symbols.dummies().iter().enumerate() {
+    for (index, dummy) in unit.symbols.dummies().iter().enumerate() {
         let at = first + unit.code.variables.as_slice()[index].first;
         append_value(alloc, text, &dummy.name, value_at(frames, at))?;
     }

@@ -88,10 +88,10 @@ pub fn append_associations(
     requires { (cells : ℕ) × (choices : List ℕ) × (a : ℕ) × IsStackedAt frame.now unit.now cells choices a }
     ensures { OnOk result ((cells : ℕ) (choices : List ℕ) (a : ℕ) → IsStackedAt frame.now unit.now cells choices a
         → text.new.items ≡ text.old.items ++ flat_map (words.association_text frame.now.image.now (run frame.now.image.now choices)
-        (scope_of frame.now.image.now (run frame.now.image.now choices) a)) (dummies_of unit.now.names.symbols.now)) }
+        (scope_of frame.now.image.now (run frame.now.image.now choices) a)) (dummies_of unit.now.symbols.now)) }
 {
     let first = frame.machine.frames.first(frame.key);
-    for (index, dummy) in unit.names.symbols.dummies().iter().enumerate() {
+    for (index, dummy) in unit.symbols.dummies().iter().enumerate() {
         let cell = first + unit.code.variables.as_slice()[index].first;
         let place = place_associated(frame, cell);
         append_line(alloc, text, frame.image, &dummy.name, place)?;

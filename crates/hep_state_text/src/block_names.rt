@@ -2,15 +2,12 @@
 ghost use Rattle.std.specs.Prelude.{◌≡◌, ◌++◌, ◌<◌, ◌≤◌, nat_eq, IfOk, OnOk, length};
 ghost use Rattle.hep_state_text.specs.BlockNames.{names_in_list, names_in_statement};
 ghost use Rattle.hep_machine.specs.Declarations as declarations;
-ghost use Rattle.hep_machine.specs.Words.{block_cells, cells_of_all, constant_value, unit_at, value_among};
+ghost use Rattle.hep_machine.specs.Words.{block_cells, cells_of_all, unit_at};
 ghost use Rattle.hep_state_text.specs.States as words;
 
-use crate::names::UnitSymbols;
 use hep_names::specification::{add_declared, block_of, blocks_in};
-use hep_names::{ProgramSymbols, Symbols};
+use hep_names::{ProgramSymbols, Symbols, cells_of};
 use hep_source::{CommonBlock, Name, Statement};
-use hep_values::cells_of;
-use hep_values::named_constants::constants;
 use std::alloc::{AllocError, Global};
 
 // ---- names
@@ -63,13 +60,12 @@ pub fn names_in_block(
 
 // ---- the unit in which a block is longest
 
-fn cells_of_all(alloc: Global, names: &UnitSymbols, list: &[Name]) -> Result<u128, AllocError>
-    requires { value_among names.now.constants.now ≡ constant_value names.now.symbols.now }
-    ensures { IfOk result (λ cells. cells ≡ cells_of_all names.now.symbols.now list.now) }
+fn cells_of_all(alloc: Global, symbols: &Symbols, list: &[Name]) -> Result<u128, AllocError>
+    ensures { IfOk result (λ cells. cells ≡ cells_of_all symbols.now list.now) }
 {
     let mut sum: u128 = 0;
     for name in list {
-        sum += u128::from(cells_of(alloc, names.symbols, names.constants, name)?);
+        sum += u128::from(cells_of(alloc, symbols, name)?);
     }
     Ok(sum)
 }
@@ -83,13 +79,8 @@ fn has_length(
 ) -> Result<bool, AllocError>
     ensures { IfOk result (λ is. is ≡ nat_eq (cells_of_all symbols.now (declarations.names_in_block symbols.now block)) cells) }
 {
-    let constants = constants(alloc, symbols)?;
-    let names = UnitSymbols {
-        symbols,
-        constants: &constants,
-    };
     let list = names_in_block(alloc, symbols.statements(), block)?;
-    Ok(cells_of_all(alloc, &names, &list)? == cells)
+    Ok(cells_of_all(alloc, symbols, &list)? == cells)
 }
 
 /// The index of the first unit in which a block has `cells` cells, its greatest length.

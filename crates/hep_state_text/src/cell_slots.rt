@@ -1,5 +1,5 @@
 //! Cells of the arena in a row.
-ghost use Rattle.std.specs.Prelude.{◌≡◌, ℕ, IfOk};
+ghost use Rattle.std.specs.Prelude.{◌≡◌, IfOk};
 ghost use Rattle.hep_machine.specs.Words.{Units, Layout, Location, State};
 ghost use Rattle.hep_state_text.specs.States.{slots_at};
 ghost use Rattle.hep_state_text.specs.StoredVariables.{AreKeptFrom, AreKeptSomewhere};

@@ -9,23 +9,21 @@ ghost use Rattle.hep_state_text.specs.States as words;
 
 use crate::block_names::{longest, names_in_block};
 use crate::cell_slots::slots;
-use crate::names::UnitSymbols;
 use crate::storage::StateStorage;
 use crate::variable::append_variable;
 use crate::variables::own_variable;
+use hep_names::{Symbols, cells_of};
 use hep_proc::Frames;
 use hep_source::{Name, block_spelling};
 use hep_storage::laws::starts_are_first_cells;
 use hep_storage::{CommonBlocks, CommonStarts};
-use hep_values::cells_of;
-use hep_values::named_constants::constants;
 use hep_views::CoreState;
 use std::alloc::{AllocError, Global};
 
 /// A common block in a unit: the unit's names, those in the block, in order, and the block's first cell.
 #[derive(Clone, Copy)]
 pub(crate) struct NamedBlock<'a> {
-    pub(crate) names: UnitSymbols<'a>,
+    pub(crate) symbols: &'a Symbols<'a>,
     pub(crate) list: &'a [Name],
     pub(crate) first: u32,
 }
@@ -49,13 +47,13 @@ fn append_variables(
     ensures { OnOk result ((program : Units) (s : State) (layout : Layout)
         → IsBlockAt program s layout block.now frames.now.arena
         → text.new.items
-        ≡ text.old.items ++ flat_map (words.own_text program s (words.common_scope program s block.now.names.symbols.now)) block.now.list.now) }
+        ≡ text.old.items ++ flat_map (words.own_text program s (words.common_scope program s block.now.symbols.now)) block.now.list.now) }
 {
-    let names = block.names;
+    let symbols = block.symbols;
     let mut at = block.first;
     for name in block.list {
-        let variable = own_variable(alloc, &names, name)?;
-        let cells = cells_of(alloc, names.symbols, names.constants, name)?;
+        let variable = own_variable(alloc, symbols, name)?;
+        let cells = cells_of(alloc, symbols, name)?;
         let slots = slots(alloc, frames, at, cells)?;
         append_variable(text, &variable, &slots)?;
         at += cells;
@@ -80,17 +78,12 @@ fn append_block(
     storage.image.is_runnable();
     let number = longest(alloc, storage.symbols, extent.block, extent.cells)?;
     let symbols = &storage.symbols.units()[number];
-    let constants = constants(alloc, symbols)?;
-    let names = UnitSymbols {
-        symbols,
-        constants: &constants,
-    };
     let list = names_in_block(alloc, symbols.statements(), extent.block)?;
     let name = block_spelling(alloc, extent.block)?;
     let unit = storage.image.program().as_slice()[number].name(alloc)?;
     crate::lines::append_block(text, name.as_slice(), unit.as_slice())?;
     let block = NamedBlock {
-        names,
+        symbols,
         list: &list,
         first: extent.first,
     };

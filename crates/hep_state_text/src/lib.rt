@@ -12,7 +12,6 @@ pub mod common_variables;
 pub mod held_activations;
 pub mod laws;
 pub mod lines;
-pub mod names;
 pub mod process_lines;
 pub mod storage;
 mod subscripts;
@@ -34,7 +33,6 @@ pub use lines::{
     append_activation, append_association, append_block, append_block_name, append_element,
     append_head, append_level, append_owner, append_waiting,
 };
-pub use names::UnitSymbols;
 pub use process_lines::{SourceImage, append_process};
 pub use storage::StateStorage;
 pub use variable::{DisplayedVariable, append_variable};

@@ -1,5 +1,5 @@
 //! The lines of a variable.
-ghost use Rattle.std.specs.Prelude.{◌≡◌, ◌++◌, ◌≤◌, ◌<◌, true, length, OnOk, slice_get, drop};
+ghost use Rattle.std.specs.Prelude.{◌≡◌, ◌++◌, ◌<◌, true, length, OnOk, drop};
 ghost use Rattle.hep_machine.specs.Words.{are_dimensions};
 ghost use Rattle.hep_state_text.specs.Contents as words;
 

@@ -1,15 +1,14 @@
 //! The variables of a unit.
-ghost use Rattle.std.specs.Prelude.{◌≡◌, true, [], IfOk};
+ghost use Rattle.std.specs.Prelude.{◌≡◌, true, IfOk};
 ghost use Rattle.std.specs.Option.{option_map, unwrap_or};
-ghost use Rattle.hep_machine.specs.Words.{are_dimensions, constant_shape, constant_value, if_shape, no_shape, value_among};
+ghost use Rattle.hep_machine.specs.Words.{are_dimensions, constant_shape, if_shape, no_shape};
 ghost use Rattle.hep_state_text.specs.Variables.{IsOwn, IsScalar};
 
-use crate::names::UnitSymbols;
 use crate::variable::DisplayedVariable;
 use hep_machine::Bound;
+use hep_names::{Symbols, bounds_of};
 use hep_shape::Shape;
 use hep_source::Name;
-use hep_values::bounds_of;
 use std::alloc::{AllocError, Global};
 
 // The bounds, if they have values and are a shape.
@@ -27,16 +26,15 @@ fn shaped(alloc: Global, bounds: Option<Vec<Bound>>) -> Vec<Bound>
 }
 
 // The bounds of a variable, none for a scalar.
-fn shape(alloc: Global, names: &UnitSymbols, name: &Name) -> Result<Vec<Bound>, AllocError>
-    requires { value_among names.now.constants.now ≡ constant_value names.now.symbols.now }
-    ensures shape { IfOk result (λ bounds. bounds.items ≡ unwrap_or (constant_shape names.now.symbols.now name.now) no_shape) }
+fn shape(alloc: Global, symbols: &Symbols, name: &Name) -> Result<Vec<Bound>, AllocError>
+    ensures shape { IfOk result (λ bounds. bounds.items ≡ unwrap_or (constant_shape symbols.now name.now) no_shape) }
     ensures dimensions { IfOk result (λ bounds. are_dimensions bounds.items ≡ true) }
 {
-    if !names.symbols.is_array(name) {
+    if !symbols.is_array(name) {
         return Ok(Vec::new(alloc));
     }
-    let dimensions = names.symbols.dimensions(name);
-    let bounds = bounds_of(alloc, names.symbols, names.constants, dimensions)?;
+    let dimensions = symbols.dimensions(name);
+    let bounds = bounds_of(alloc, symbols, symbols.constants(), dimensions)?;
     Ok(shaped(alloc, bounds))
 }
 
@@ -47,16 +45,15 @@ fn shape(alloc: Global, names: &UnitSymbols, name: &Name) -> Result<Vec<Bound>, 
 /// Only where memory was refused.
 pub(crate) fn own_variable(
     alloc: Global,
-    names: &UnitSymbols,
+    symbols: &Symbols,
     name: &Name,
 ) -> Result<DisplayedVariable, AllocError>
-    requires { value_among names.now.constants.now ≡ constant_value names.now.symbols.now }
-    ensures { IfOk result (IsOwn names.now.symbols.now name.now) }
+    ensures { IfOk result (IsOwn symbols.now name.now) }
 {
     Ok(DisplayedVariable {
         name: name.spelling(alloc)?,
         asynchronous: name.asynchronous,
-        bounds: shape(alloc, names, name)?,
+        bounds: shape(alloc, symbols, name)?,
     })
 }
 

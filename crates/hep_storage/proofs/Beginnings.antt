@@ -6,7 +6,7 @@ use Rattle.std.specs.Option.{option_eq}
 use Rattle.hep_machine.specs.Words.{name_eq, Units, BlockName, same_block, blocks_of, is_block_among, block_cells, cells_of_blocks, common_cells}
 use Rattle.hep_layout.specs.Words.{Row, cells_in, common_row, first_in, first_of_block}
 use Rattle.hep_layout.proofs.CommonRows.{common_row-cells}
-use Rattle.hep_values.proofs.BlockNames.{changed}
+use Rattle.hep_names.proofs.BlockNames.{changed}
 use Rattle.hep_storage.specs.Starts.{AreStarts, narrowed, start_in}
 use Rattle.hep_storage.specs.declared.starts.CommonStarts.{CommonStarts}
 use Rattle.hep_layout.proofs.Singles.{AreOnce, program-single, single-apart, single-rest}

@@ -86,10 +86,6 @@ front-rest p rs h =
     ∙ (ap (λ ps. positions_in (take p.run rs) ++ ps) (parts-of (drop p.run rs) p.before h.1)
     ∙ sym (append_assoc (positions_in (take p.run rs)) (first_places (drop p.run rs) p.before) (later_places (drop p.run rs) p.before))))
 
-pub start-is : (rs : List PositionRun) → IsPlace (record { run = 0; before = 0 }) rs
-start-is [] = (omega arith, refl)
-start-is (r ∷ rs) = (omega arith, omega arith)
-
 within-none : (rs : List PositionRun) → IsWithin rs 0
 within-none [] = refl
 within-none (r ∷ rs) = omega arith

@@ -1,5 +1,5 @@
 -- The line that is reported of DATA, statement by statement, and the loops that find it.
-use Rattle.std.proofs.Common.{◌≡◌, Bool, not, ◌&&◌, ◌||◌, List, [], ◌∷◌, ◌++◌, is_some, refl, ap, sym, ◌∙◌, ◌<◌, ◌≤◌, ◌+◌, ℕ, take, drop, length, get_or, Option, true, false, append-nil, append_assoc, subst, option_to_list}
+use Rattle.std.proofs.Common.{◌≡◌, Bool, not, ◌&&◌, ◌||◌, List, [], ◌∷◌, ◌++◌, is_some, refl, ap, sym, ◌∙◌, ◌<◌, ◌≤◌, ◌+◌, ℕ, take, drop, length, get_or, true, false, append-nil, append_assoc, subst, option_to_list}
 use Rattle.std.specs.List.{flat_map, list_any}
 use Rattle.std.specs.Option.{option_map}
 use Rattle.std.proofs.lemmas.List.{take_more, drop_all}
@@ -7,35 +7,12 @@ use Rattle.std.proofs.lemmas.Grind.{flat_map-append}
 use Rattle.std.proofs.lemmas.List.Folds.{list_any-append}
 use Rattle.hep_conditions.specs.declared.violation.Violation.{Violation}
 use Rattle.hep_machine.specs.Words.{trees_of, DataGroup, DataValue, Target, Statement, Constants, value_among, given_by, values_of, constant_shape, Stretch, groups_in, elements_named, repeat_of, value_of_constant, values_given, is_nonempty, is_array, constants_in}
-use Rattle.hep_conditions.specs.Words.{name_repeated, known_targets, known_values, has_type, is_forbidden, is_outside, is_target_outside, is_value, is_wrong_group, is_misplaced, wrong_groups_from, share_element, elements_in, is_given_twice, given_twice_from, data_violations, known_before, same_length, holds_at_each_place, reported, least_line, line_when, first_of, at_line, when}
-use Rattle.hep_conditions.proofs.Lines.{reported-when, reported-append, least_line-none, least_line-assoc, least_line-swap, least_line-or}
-use Rattle.hep_values.proofs.ConstantsInOrder.{given-same}
+use Rattle.hep_conditions.specs.Words.{name_repeated, known_targets, known_values, has_type, is_forbidden, is_outside, is_target_outside, is_value, is_wrong_group, is_misplaced, wrong_groups_from, share_element, elements_in, is_given_twice, given_twice_from, data_violations, known_before, same_length, holds_at_each_place, line_when, at_line, when}
+use Rattle.hep_names.proofs.ConstantsInOrder.{given-same}
 use Rattle.hep_storage.specs.InitializedElements.{given_after, IsGiven, Gives}
-use Rattle.hep_storage.specs.DataGroups.{is_wrong, wrong_line, twice_line, data_line, data_lines}
+use Rattle.hep_storage.specs.DataGroups.{is_wrong, data_lines}
 use Rattle.hep_source.proofs.Tests.{or-assoc, or-false, or-turned, or-swapped, and-split}
 use Rattle.hep_storage.specs.declared.initialized_elements.InitializedElements.{InitializedElements}
-
--- ---- what is reported
-
-wrong-lines : (unit : List Statement) (known : Constants) (ss : List Statement) → first_of (wrong_groups_from unit known ss) ≡ reported 311 (wrong_line unit known ss)
-wrong-lines unit known [] = refl
-wrong-lines unit known (s ∷ ss) =
-    reported-append 311 (when (is_wrong unit known s) (at_line 311 s.line)) (wrong_groups_from unit (given_by unit known (constants_in s.form)) ss)
-    (line_when (is_wrong unit known s) s.line) (wrong_line unit (given_by unit known (constants_in s.form)) ss)
-    (reported-when 311 s.line (is_wrong unit known s)) (wrong-lines unit (given_by unit known (constants_in s.form)) ss)
-
-twice-lines : (unit : List Statement) (known : Constants) (given : List Stretch) (ss : List Statement) → first_of (given_twice_from unit known given ss) ≡ reported 311 (twice_line unit known given ss)
-twice-lines unit known given [] = refl
-twice-lines unit known given (s ∷ ss) =
-    let es = elements_in unit known s in
-    reported-append 311 (when (is_given_twice given es) (at_line 311 s.line)) (given_twice_from unit (given_by unit known (constants_in s.form)) (es ++ given) ss)
-    (line_when (is_given_twice given es) s.line) (twice_line unit (given_by unit known (constants_in s.form)) (es ++ given) ss)
-    (reported-when 311 s.line (is_given_twice given es)) (twice-lines unit (given_by unit known (constants_in s.form)) (es ++ given) ss)
-
-pub data-lines : (unit : List Statement) → first_of (data_violations unit) ≡ reported 311 (least_line (wrong_line unit [] unit) (twice_line unit [] [] unit))
-data-lines unit =
-    reported-append 311 (wrong_groups_from unit [] unit) (given_twice_from unit [] [] unit) (wrong_line unit [] unit) (twice_line unit [] [] unit)
-    (wrong-lines unit [] unit) (twice-lines unit [] [] unit)
 
 -- ---- constants that are the same for each name
 
@@ -66,20 +43,6 @@ module _ (unit : List Statement) (k m : Constants) (h : value_among k ≡ value_
 
   pub elements-same : (s : Statement) → elements_in unit k s ≡ elements_in unit m s
   elements-same s = λ i. flat_map (λ (g : DataGroup). flat_map (λ (t : Target). option_to_list (elements_named unit (h i) t)) g.targets) (groups_in s.form)
-
-pub wrong-same : (unit : List Statement) (ss : List Statement) (k m : Constants) → value_among k ≡ value_among m → wrong_line unit k ss ≡ wrong_line unit m ss
-wrong-same unit [] k m h = refl
-wrong-same unit (s ∷ ss) k m h =
-    let more = wrong-same unit ss (given_by unit k (constants_in s.form)) (given_by unit m (constants_in s.form)) (given-same unit (constants_in s.form) k m h) in
-    λ i. least_line (line_when (wrong-here-same unit k m h s i) s.line) (more i)
-
-pub twice-same : (unit : List Statement) (ss : List Statement) (k m : Constants) (given : List Stretch) → value_among k ≡ value_among m → twice_line unit k given ss ≡ twice_line unit m given ss
-twice-same unit [] k m given h = refl
-twice-same unit (s ∷ ss) k m given h =
-    let e = elements-same unit k m h s in
-    let more = twice-same unit ss (given_by unit k (constants_in s.form)) (given_by unit m (constants_in s.form)) (elements_in unit k s ++ given) (given-same unit (constants_in s.form) k m h) in
-    ap (least_line (line_when (is_given_twice given (elements_in unit k s)) s.line)) more
-    ∙ ap (λ es. least_line (line_when (is_given_twice given es) s.line) (twice_line unit (given_by unit m (constants_in s.form)) (es ++ given) ss)) e
 
 -- ---- the order of what was given values before doesn't matter
 
@@ -115,15 +78,6 @@ any-append-same : (test : Stretch → Bool) (es given others : List Stretch) →
 any-append-same test [] given others h = h
 any-append-same test (e ∷ es) given others h = ap (λ b. test e || b) (any-append-same test es given others h)
 
-pub twice-reordered : (unit : List Statement) (ss : List Statement) (known : Constants) (given others : List Stretch) → SameGiven given others
-    → twice_line unit known given ss ≡ twice_line unit known others ss
-twice-reordered unit [] known given others h = refl
-twice-reordered unit (s ∷ ss) known given others h =
-    let es = elements_in unit known s in
-    let here = twice-of-same given others es h in
-    let more = twice-reordered unit ss (given_by unit known (constants_in s.form)) (es ++ given) (es ++ others) (λ e. any-append-same (share_element e) es given others (h e)) in
-    λ i. least_line (line_when (here i) s.line) (more i)
-
 -- ---- elements that are given values
 
 gives-more : (unit : List Statement) (a b c : InitializedElements) (es fs : List Stretch) (p q r : Bool) → Gives unit a b es p → Gives unit b c fs q → r ≡ (p || q) → Gives unit a c (es ++ fs) r
@@ -144,41 +98,8 @@ gives-turn unit f xs i x a b c p q r lt at h k e =
 -- ---- statements
 
 module _ (unit : List Statement) (known : Constants) (given : List Stretch) (s : Statement) where
-  abbrev next_known : Constants
-  next_known = given_by unit known (constants_in s.form)
-
   abbrev es : List Stretch
   es = elements_in unit known s
-
-  abbrev wrong_here : Bool
-  wrong_here = is_wrong unit known s || is_given_twice given es
-
-  more-line : (after : Constants) (more : List Statement) → value_among after ≡ value_among next_known
-      → data_line unit after (given_after given es) more ≡ data_line unit next_known (es ++ given) more
-  more-line after more e =
-      let wrong = wrong-same unit more after next_known e in
-      let twice = twice-same unit more after next_known (given_after given es) e
-      ∙ twice-reordered unit more next_known (given_after given es) (es ++ given) (λ f. any-after (share_element f) given es) in
-      λ i. least_line (wrong i) (twice i)
-
-  first-line : (more : List Statement) → data_line unit known given (s ∷ more) ≡ least_line (line_when wrong_here s.line) (data_line unit next_known (es ++ given) more)
-  first-line more =
-      least_line-swap (line_when (is_wrong unit known s) s.line) (wrong_line unit next_known more) (line_when (is_given_twice given es) s.line) (twice_line unit next_known (es ++ given) more)
-      ∙ ap (λ o. least_line o (data_line unit next_known (es ++ given) more)) (least_line-or s.line (is_wrong unit known s) (is_given_twice given es))
-
-  pub data-turn : (ss more : List Statement) (after : Constants) (best here next whole : Option ℕ) (wrong : Bool) → ss ≡ s ∷ more
-      → least_line best (data_line unit known given ss) ≡ whole → wrong ≡ (is_wrong unit known s || is_given_twice given (elements_in unit known s))
-      → here ≡ line_when wrong s.line → next ≡ least_line best here → value_among after ≡ value_among (given_by unit known (constants_in s.form))
-      → least_line next (data_line unit after (given_after given (elements_in unit known s)) more) ≡ whole
-  data-turn ss more after best here next whole wrong all so_far w h n e =
-      rw (n, h, w, more-line after more e)
-      (least_line-assoc best (line_when wrong_here s.line) (data_line unit next_known (es ++ given) more)
-      ∙ (ap (least_line best) (sym (first-line more)) ∙ (rw all at so_far)))
-
-pub data-end : (unit : List Statement) (known : Constants) (given : List Stretch) (ss : List Statement) (i : ℕ) (best whole : Option ℕ) → length ss ≤ i
-    → least_line best (data_line unit known given (drop i ss)) ≡ whole → best ≡ whole
-data-end unit known given ss i best whole le so_far =
-    sym (ap (λ us. least_line best (data_line unit known given us)) (drop_all i ss le) ∙ least_line-none best) ∙ so_far
 
 -- ---- the lines of all statements that violate 311
 

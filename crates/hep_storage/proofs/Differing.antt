@@ -1,13 +1,11 @@
 -- Pairs of units that have a block otherwise, against what the units before have in common.
 use Rattle.std.proofs.Common.{◌≡◌, ℕ, ◌+◌, Bool, false, not, ◌&&◌, ◌||◌, nat_eq, Option, Some, None, is_some, List, [], ◌∷◌, map, length, refl, ap, sym, ◌∙◌, arith}
-use Rattle.std.specs.List.{flat_map}
 use Rattle.std.proofs.lemmas.Bool.Decides.{nat_tests}
-use Rattle.hep_machine.specs.Words.{Statement, Units, Repeated, BlockName, blocks_of}
+use Rattle.hep_machine.specs.Words.{Statement, Units, Repeated, BlockName}
 use Rattle.hep_conditions.specs.Common as conditions
-use Rattle.hep_conditions.specs.Known.{Known as Items}
-use Rattle.hep_conditions.specs.Words.{count_of_items, holds_at_each_place, least_line, line_when, least_line_of, reported, first_of}
-use Rattle.hep_conditions.proofs.Lines.{least_line-or, least_line_of-same, least_line_of-both, least_line_of-turned, reported-append, reported-of, reported-when, least_line_of-nones, least_line-assoc, least_line-comm}
-use Rattle.hep_storage.specs.Agreement.{Summed, nothing_summed, with_list, with_block, with_length, is_other_length, place_count, differs_from, line_after, least_after, least_of_blocks}
+use Rattle.hep_conditions.specs.Words.{count_of_items, holds_at_each_place, least_line, line_when, least_line_of, Known as Items}
+use Rattle.hep_conditions.proofs.Lines.{least_line-or}
+use Rattle.hep_storage.specs.Agreement.{Summed, nothing_summed, with_list, with_block, with_length, is_other_length, place_count, differs_from, line_after}
 use Rattle.hep_storage.specs.BlockContents.{KnownPlaces, Block, run_of, known_places, block_in}
 use Rattle.hep_storage.specs.Runs.{alike, positions_in}
 use Rattle.hep_storage.specs.SharedPrefix.{departs}
@@ -62,32 +60,6 @@ differs-more b k l s =
     rw (sym (one-more s.is_cut s.positions k.positions l.positions), sym (length-more k l s.lengths))
     (grind arith)
 
--- ---- each unit with each one after it, or with each one before it
-
-module _ {U : Type 0} (line : U → U → Option ℕ) where
-  abbrev each_pair : List U → Option ℕ
-  each_pair [] = None
-  each_pair (u ∷ us) = least_line (least_line_of (line u) us) (each_pair us)
-
-  abbrev each_later : List U → List U → Option ℕ
-  each_later before [] = None
-  each_later before (w ∷ ws) = least_line (least_line_of (λ u. line u w) before) (each_later (w ∷ before) ws)
-
-  regrouped : (a b l d : Option ℕ) → least_line a (least_line (least_line l b) d) ≡ least_line (least_line a b) (least_line l d)
-  regrouped a b l d =
-      ap (λ m. least_line a (least_line m d)) (least_line-comm l b)
-      ∙ (ap (least_line a) (least_line-assoc b l d) ∙ sym (least_line-assoc a b (least_line l d)))
-
-  pairs-later : (before us : List U) → each_later before us ≡ least_line (least_line_of (λ u. least_line_of (line u) us) before) (each_pair us)
-  pairs-later before [] = sym (ap (λ l. least_line l None) (least_line_of-nones before))
-  pairs-later before (w ∷ ws) =
-      ap (least_line (least_line_of (λ u. line u w) before)) (pairs-later (w ∷ before) ws)
-      ∙ (regrouped (least_line_of (λ u. line u w) before) (least_line_of (λ u. least_line_of (line u) ws) before) (least_line_of (line w) ws) (each_pair ws)
-      ∙ ap (λ l. least_line l (each_pair (w ∷ ws))) (sym (least_line_of-both (λ u. line u w) (λ u. least_line_of (line u) ws) before)))
-
-  pairs-from-start : (us : List U) → each_later [] us ≡ each_pair us
-  pairs-from-start us = pairs-later [] us
-
 -- ---- units
 
 abbrev pub pair_of_blocks : BlockName → Option Block → Option Block → Option ℕ
@@ -102,17 +74,6 @@ pair b unit later = pair_of_blocks b (block_in unit b) (block_in later b)
 abbrev pub summed_over : BlockName → Units → Summed
 summed_over b [] = nothing_summed
 summed_over b (unit ∷ units) = with_block (block_in unit b) (summed_over b units)
-
-block_differs-line : (b : BlockName) (unit later : List Statement) → first_of (conditions.block_differs b unit later) ≡ reported 305 (pair b unit later)
-block_differs-line b unit later = by (conditions.last_line b unit) (conditions.last_line b later) refl refl
-  where
-    by : (k l : Option ℕ) → conditions.last_line b unit ≡ k → conditions.last_line b later ≡ l → first_of (conditions.block_differs b unit later) ≡ reported 305 (pair b unit later)
-    by None l e f = rw e refl
-    by (Some k) None e f = rw (e, f) refl
-    by (Some k) (Some line) e f =
-        rw (e, f)
-        (reported-when 305 line (not (conditions.same_contents b (conditions.positions_of_block unit b) (conditions.positions_of_block later b)))
-        ∙ ap (λ d. reported 305 (line_when d line)) (contents-differ b (conditions.positions_of_block unit b) (conditions.positions_of_block later b)))
 
 pub nothing-differs : (b : BlockName) (k : KnownPlaces) → differs_from b nothing_summed k ≡ false
 nothing-differs b k = by k.positions
@@ -138,36 +99,3 @@ against b later before = by (block_in later b) before
     by None (u ∷ us) = rw (no-pair b (block_in u b)) (by None us)
     by (Some d) [] = sym (ap (λ t. line_when t d.line) (nothing-differs b d.list))
     by (Some d) (u ∷ us) = ap (least_line (pair_of_blocks b (block_in u b) (Some d))) (by (Some d) us) ∙ more d (block_in u b) (summed_over b us)
-
-later-units : (b : BlockName) (before us : Units) → least_after b (summed_over b before) us ≡ each_later (pair b) before us
-later-units b before [] = refl
-later-units b before (u ∷ us) =
-    ap (λ l. least_line l (least_after b (summed_over b (u ∷ before)) us)) (sym (against b u before))
-    ∙ ap (least_line (least_line_of (λ unit. pair b unit u) before)) (later-units b (u ∷ before) us)
-
--- ---- the whole
-
-abbrev pair_among : List BlockName → List Statement → List Statement → Option ℕ
-pair_among bs unit later = least_line_of (λ b. pair b unit later) bs
-
-differing-line : (bs : List BlockName) (us : Units) → first_of (conditions.differing bs us) ≡ reported 305 (each_pair (pair_among bs) us)
-differing-line bs [] = refl
-differing-line bs (u ∷ us) =
-    reported-append 305 (flat_map (conditions.blocks_differ bs u) us) (conditions.differing bs us) (least_line_of (pair_among bs u) us) (each_pair (pair_among bs) us)
-    (reported-of 305 (conditions.blocks_differ bs u) (pair_among bs u) (λ w. reported-of 305 (λ b. conditions.block_differs b u w) (λ b. pair b u w) (λ b. block_differs-line b u w) bs) us)
-    (differing-line bs us)
-
-by-blocks : (bs : List BlockName) (us : Units) → each_pair (pair_among bs) us ≡ least_line_of (λ b. each_pair (pair b) us) bs
-by-blocks bs [] = sym (least_line_of-nones bs)
-by-blocks bs (u ∷ us) =
-    ap (λ l. least_line l (each_pair (pair_among bs) us)) (least_line_of-turned (λ w b. pair b u w) us bs)
-    ∙ (ap (least_line (least_line_of (λ b. least_line_of (pair b u) us) bs)) (by-blocks bs us)
-    ∙ sym (least_line_of-both (λ b. least_line_of (pair b u) us) (λ b. each_pair (pair b) us) bs))
-
--- what is reported of each unit with each one after it is the least line of units against those before
-pub all-pairs : (program : Units) → first_of (conditions.common_violations program) ≡ reported 305 (least_of_blocks (blocks_of program) (λ b. nothing_summed) program)
-all-pairs program =
-    differing-line (blocks_of program) program
-    ∙ ap (reported 305)
-    (by-blocks (blocks_of program) program
-    ∙ least_line_of-same (λ b. each_pair (pair b) program) (λ b. least_after b nothing_summed program) (λ b. sym (pairs-from-start (pair b) program) ∙ sym (later-units b [] program)) (blocks_of program))

@@ -13,7 +13,7 @@ use Rattle.hep_source.proofs.NameTests.{name_eq-is, equal_names, same_name-turne
 use Rattle.hep_storage.specs.InitializedElements.{element_eq, IsNamed, Describes}
 use Rattle.hep_storage.specs.declared.initialized_elements.Element.{Element}
 use Rattle.hep_storage.specs.declared.initialized_elements.DataElements.TheVariants.{One, All}
-use Rattle.hep_values.proofs.Elements.{number-within, same-element, product-parts, some-equal}
+use Rattle.hep_names.proofs.Elements.{number-within, same-element, product-parts, some-equal}
 use Rattle.hep_source.proofs.Tests.{and-true}
 
 -- ---- shapes

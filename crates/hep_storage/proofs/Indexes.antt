@@ -5,7 +5,7 @@ use Rattle.std.specs.Option.{option_eq, option_map}
 use Rattle.std.proofs.lemmas.Bool.Decides.{nat_tests}
 use Rattle.hep_machine.specs.Words.{Name, index_among, index_where, name_eq, same_name, BlockName, same_block}
 use Rattle.hep_source.proofs.NameTests.{name_eq-is}
-use Rattle.hep_values.proofs.BlockNames.{block_eq-is}
+use Rattle.hep_names.proofs.BlockNames.{block_eq-is}
 
 pub position-is : {A : Type 0} (test : A → Bool) (xs : List A) → position test xs ≡ index_where test xs
 position-is test [] = refl

@@ -5,7 +5,7 @@ use Rattle.std.proofs.lemmas.Bool.Decides.{nat_tests}
 use Rattle.std.specs.List.{list_any, flat_map}
 use Rattle.std.specs.Option.{option_eq}
 use Rattle.hep_machine.specs.Words.{name_eq, Units, Statement, cells_of_all, BlockName, same_block, blocks_of_unit, names_in_block, is_block_among, with_blocks, block_cells}
-use Rattle.hep_values.proofs.BlockNames.{block_eq-is}
+use Rattle.hep_names.proofs.BlockNames.{block_eq-is}
 use Rattle.hep_machine.proofs.Locations.{equal_blocks}
 use Rattle.hep_storage.specs.declared.common.CommonItem.{CommonItem}
 use Rattle.hep_storage.specs.declared.common.Length.{Length}

@@ -154,10 +154,6 @@ module _ {A B : Type 0} (test : A → B → Bool) where
   on-nothing i j [] = refl
   on-nothing i j (x ∷ xs) = on-nothing (i + x.count) j xs
 
-  agree-nothing : (xs : List A) → agree_as_far test xs [] ≡ true
-  agree-nothing [] = refl
-  agree-nothing (x ∷ xs) = refl
-
   -- item by item
   spread-second : (a : A) (b : B) (r : ℕ) (xs : List (Repeated A)) (ys : List (Repeated B))
       → ((zs : List (Repeated B)) → holds_on 0 0 (record { item = a; count = r } ∷ xs) zs ≡ agree_as_far test (repeat_before r a (spread xs)) (spread zs))

@@ -1,12 +1,12 @@
 -- The blocks of a unit are among those of its program; and the loops over units and over the blocks of a unit.
-use Rattle.std.proofs.Common.{◌≡◌, ◌<◌, ◌≤◌, ◌+◌, ℕ, Bool, true, false, Option, Some, None, is_some, List, [], ◌∷◌, drop, length, get_or, refl, ap, sym, subst, ◌∙◌, if◌then◌else◌, arith, ◌++◌}
-use Rattle.std.proofs.lemmas.List.{drop_more, drop_all}
+use Rattle.std.proofs.Common.{◌≡◌, ◌<◌, ◌≤◌, ◌+◌, ℕ, Bool, true, false, Option, None, is_some, List, [], ◌∷◌, drop, length, get_or, refl, ap, sym, subst, ◌∙◌, if◌then◌else◌, arith, ◌++◌}
+use Rattle.std.proofs.lemmas.List.{drop_all}
 use Rattle.std.specs.List.{list_any, flat_map}
 use Rattle.std.proofs.lemmas.List.Folds.{list_any-append, list_any_at}
 use Rattle.hep_machine.specs.Words.{Statement, Units, BlockName, same_block, is_block_among, blocks_of, block_of, blocks_in, blocks_of_unit, with_blocks, CommonBlock}
 use Rattle.hep_conditions.specs.Words.{least_line, least_line_of}
-use Rattle.hep_conditions.proofs.Lines.{least_line-none, least_line-assoc, least_line-comm, least_line_of-both, least_line_of-nones, least_line-again}
-use Rattle.hep_storage.specs.Agreement.{Summed, with_block, line_after, least_after, least_of_blocks, least_of_left, AreAmong}
+use Rattle.hep_conditions.proofs.Lines.{least_line-assoc, least_line-comm, least_line-again}
+use Rattle.hep_storage.specs.Agreement.{Summed, with_block, line_after, AreAmong}
 use Rattle.hep_storage.specs.BlockContents.{Block, block_in, known_places}
 use Rattle.hep_machine.proofs.Locations.{equal_blocks, block-self, block-stays}
 use Rattle.hep_source.proofs.Tests.{any-flat, some-mapped}
@@ -56,32 +56,6 @@ module _ (line : BlockName → Option ℕ) where
       let behind = least_line_of line cs in
       grind (arith, equal_blocks b c, least_line-again (line c), least_line-assoc (line c) (line c) behind, least_line-turned (line b) (line c) behind, absorbed b cs)
 
--- ---- the loop over units
-
--- no unit is left
-pub units-end : (bs : List BlockName) (s : BlockName → Summed) (units : Units) (i : ℕ) (best total : Option ℕ) → length units ≤ i
-    → least_line best (least_of_blocks bs s (drop i units)) ≡ total → best ≡ total
-units-end bs s units i best total k h =
-    sym (least_line-none best) ∙ (rw (drop_all i units k, least_line_of-nones bs) at h)
-
--- the blocks of a unit that a table has
-pub blocks-turn : (s t : BlockName → Summed) (items units : Units) (i : ℕ) (d u : List Statement) (found : BlockName → Option Block) (best line after : Option ℕ)
-    → items ≡ units → i < length items → u ≡ get_or items i d → ((b : BlockName) → found b ≡ block_in u b)
-    → ((b : BlockName) → t b ≡ with_block (found b) (s b)) → ((bs : List BlockName) → AreAmong bs found → line ≡ least_of_left bs s found) → after ≡ least_line best line
-    → least_line after (least_of_blocks (blocks_of units) t (drop (i + 1) units)) ≡ least_line best (least_of_blocks (blocks_of units) s (drop i units))
-blocks-turn s t items units i d u found best line after same lt is f h e a =
-    let bs = blocks_of units in
-    let rest = drop (i + 1) units in
-    let more : i < length units = subst (λ us. i < length us) same lt in
-    let at : u ≡ get_or units i d = is ∙ ap (λ us. get_or us i d) same in
-    let all : drop i units ≡ u ∷ rest = drop_more units i d more ∙ ap (λ v. v ∷ rest) (sym at) in
-    let read : found ≡ block_in u = λ k b. f b k in
-    let next : t ≡ (λ b. with_block (found b) (s b)) = λ k b. h b k in
-    let there = e bs (λ b k. unit-among units i d more b (ap (λ v. is_some (block_in v b)) (sym at) ∙ (ap is_some (sym (f b)) ∙ k))) in
-    let here = λ (b : BlockName). line_after b (s b) (block_in u b) in
-    let later = λ (b : BlockName). least_after b (with_block (block_in u b) (s b)) rest in
-    rw (all, a, there, next, read) (least_line-assoc best (least_line_of here bs) (least_line_of later bs) ∙ ap (least_line best) (sym (least_line_of-both here later bs)))
-
 -- ---- one block less
 
 module _ (k : BlockName) (f g : BlockName → Option ℕ) (other : (b : BlockName) → g b ≡ (if same_block k b then None else f b)) where
@@ -111,52 +85,7 @@ module _ (k : BlockName) (s t : BlockName → Summed) (left fewer : BlockName �
   pub fewer-line : (b : BlockName) → line_after b (t b) (fewer b) ≡ (if same_block k b then None else line_after b (s b) (left b))
   fewer-line b = grind (arith, less b, more b)
 
-  block-turn : (bs : List BlockName) (best line : Option ℕ) → AreAmong bs left → line ≡ line_after k (s k) (left k)
-      → least_line (least_line best line) (least_of_left bs t fewer) ≡ least_line best (least_of_left bs s left)
-  block-turn bs best line h e =
-      least_line-assoc best line (least_of_left bs t fewer)
-      ∙ ap (least_line best) (ap (λ l. least_line l (least_of_left bs t fewer)) e ∙ there (left k) refl)
-    where
-      there : (l : Option Block) → left k ≡ l → least_line (line_after k (s k) (left k)) (least_of_left bs t fewer) ≡ least_of_left bs s left
-      there None n =
-          without k (λ b. line_after b (s b) (left b)) (λ b. line_after b (t b) (fewer b)) fewer-line bs
-          ∙ ap (λ l. least_line (line_after k (s k) l) (least_of_left bs s left)) n
-      there (Some c) n = taken k (λ b. line_after b (s b) (left b)) (λ b. line_after b (t b) (fewer b)) fewer-line bs (h k (ap is_some n))
-
--- no block is left
-none-left : (bs : List BlockName) (s : BlockName → Summed) (left : BlockName → Option Block) → ((b : BlockName) → left b ≡ None) → least_of_left bs s left ≡ None
-none-left bs s left h = (λ i. least_of_left bs s (λ b. h b i)) ∙ least_line_of-nones bs
-
 -- ---- the loop over the blocks of a unit
-
--- some of the blocks are left; the others were added, and gave this line
-pub record Turned (s t : BlockName → Summed) (all left : BlockName → Option Block) (least : Option ℕ) : Type 0 where
-  pub joined : (b : BlockName) → with_block (left b) (t b) ≡ with_block (all b) (s b)
-  pub among : (bs : List BlockName) → AreAmong bs all → AreAmong bs left
-  pub line : (bs : List BlockName) → AreAmong bs all → least_line least (least_of_left bs t left) ≡ least_of_left bs s all
-
-pub turned-start : {s : BlockName → Summed} {all : BlockName → Option Block} → Turned s s all all None
-turned-start = record { joined = λ b. refl; among = λ bs h. h; line = λ bs h. refl }
-
-pub turned-next : {s t next : BlockName → Summed} {all left fewer : BlockName → Option Block} {least line after : Option ℕ} (k : BlockName)
-    → Turned s t all left least → ((b : BlockName) → fewer b ≡ (if same_block k b then None else left b))
-    → ((b : BlockName) → next b ≡ (if same_block k b then with_block (left k) (t k) else t b)) → line ≡ line_after k (t k) (left k) → after ≡ least_line least line
-    → Turned s next all fewer after
-turned-next {t = t} {next = next} {left = left} {fewer = fewer} {least = least} {line = line} k h less more e a =
-    record {
-      joined = λ b. block-joined k t next left fewer less more b ∙ h.joined b;
-      among = λ bs m. block-among k t next left fewer less more bs (h.among bs m);
-      line = λ bs m.
-          ap (λ l. least_line l (least_of_left bs next fewer)) a
-          ∙ (block-turn k t next left fewer less more bs least line (h.among bs m) e ∙ h.line bs m);
-    }
-
-pub turned-end : {s t : BlockName → Summed} {all left : BlockName → Option Block} {least : Option ℕ} → Turned s t all left least → ((b : BlockName) → left b ≡ None)
-    → ((b : BlockName) → t b ≡ with_block (all b) (s b)) × ((bs : List BlockName) → AreAmong bs all → least ≡ least_of_left bs s all)
-turned-end {t = t} {left = left} {least = least} h none = (
-  λ b. ap (λ o. with_block o (t b)) (sym (none b)) ∙ h.joined b,
-  λ bs m. sym (least_line-none least) ∙ (ap (least_line least) (sym (none-left bs t left none)) ∙ h.line bs m),
-)
 
 -- of a loop over names, those that are left have all blocks that are left
 pub among-next : (k : BlockName) (ks : List BlockName) (left fewer : BlockName → Option Block) → ((b : BlockName) → fewer b ≡ (if same_block k b then None else left b)) → AreAmong (k ∷ ks) left → AreAmong ks fewer
@@ -167,6 +96,3 @@ none-among left h b = grind (arith, h b)
 
 pub all-settled : (ks : List BlockName) (i : ℕ) (left : BlockName → Option Block) → length ks ≤ i → AreAmong (drop i ks) left → (b : BlockName) → left b ≡ None
 all-settled ks i left k h = none-among left (subst (λ js. AreAmong js left) (drop_all i ks k) h)
-
-pub left-same : (bs : List BlockName) (s t : BlockName → Summed) (left : BlockName → Option Block) → ((b : BlockName) → s b ≡ t b) → least_of_left bs s left ≡ least_of_left bs t left
-left-same bs s t left h = λ i. least_of_left bs (λ b. h b i) left

@@ -2,29 +2,26 @@
 use Rattle.std.proofs.Common.{◌≡◌, Bool, true, false, cond, Option, Some, refl, ap, sym, ◌∙◌, subst, ◌<◌, ℕ, ◌+◌, ℤ, List, ◌∷◌, length, drop, get_or, None, is_some, if◌then◌else◌}
 use Rattle.std.proofs.lemmas.Option.{same_Some}
 use Rattle.std.proofs.lemmas.List.{drop_more}
-use Rattle.hep_machine.specs.Words.{Dimension, Name, Statement, Constants, Values, value_among, constant_value, bounds_of, if_shape, shape_by, dimensions_of, Bounds, is_within, element_number, before_element, sum, name_eq}
+use Rattle.hep_machine.specs.Words.{Dimension, Name, Statement, Values, constant_value, bounds_of, if_shape, shape_by, dimensions_of, Bounds, is_within, element_number, before_element, sum, name_eq}
 use Rattle.hep_source.proofs.NameTests.{name_eq-is, equal_names}
 use Rattle.hep_storage.specs.ArrayShapes.{IsShaped, IsTable}
 use Rattle.hep_storage.specs.declared.array_shapes.ArrayShape.{ArrayShape}
 use Rattle.hep_machine.specs.declared.shape.Bound.{Bound}
-use Rattle.hep_values.proofs.Elements.{first-step, by_first}
+use Rattle.hep_names.proofs.Elements.{first-step, by_first}
 
-pub table-turn : (unit : List Statement) (constants : Constants) (old new : Name → Option (Option ArrayShape)) (x : Name) (value : Option ArrayShape) (o : Option Bounds) (ds : List Dimension)
-    → IsTable unit constants old → ((y : Name) → new y ≡ cond (name_eq x y) (Some value) (old y)) → IsShaped value (if_shape o) → o ≡ bounds_of unit (value_among constants) ds
-    → ds ≡ dimensions_of unit x → IsTable unit constants new
-table-turn unit constants old new x value o ds table updated is e f = record {
-  values = table.values;
-  shaped = λ y s h. by (name_eq x y) y refl s (sym (updated y) ∙ h);
-}
+pub table-turn : (unit : List Statement) (values : Values) (old new : Name → Option (Option ArrayShape)) (x : Name) (value : Option ArrayShape) (o : Option Bounds) (ds : List Dimension)
+    → values ≡ constant_value unit → IsTable unit old → ((y : Name) → new y ≡ cond (name_eq x y) (Some value) (old y)) → IsShaped value (if_shape o) → o ≡ bounds_of unit values ds
+    → ds ≡ dimensions_of unit x → IsTable unit new
+table-turn unit values old new x value o ds known table updated is e f = λ y s h. by (name_eq x y) y refl s (sym (updated y) ∙ h)
   where
     here : IsShaped value (shape_by unit (constant_value unit) x)
-    here = subst (λ p. IsShaped value (if_shape p)) (e ∙ (ap (λ (values : Values). bounds_of unit values ds) table.values ∙ ap (bounds_of unit (constant_value unit)) f)) is
+    here = subst (λ p. IsShaped value (if_shape p)) (e ∙ (ap (λ (v : Values). bounds_of unit v ds) known ∙ ap (bounds_of unit (constant_value unit)) f)) is
 
     by : (b : Bool) (y : Name) → name_eq x y ≡ b → (s : Option ArrayShape) → cond b (Some value) (old y) ≡ Some s → IsShaped s (shape_by unit (constant_value unit) y)
     by true y g s h =
         subst (λ z. IsShaped s (shape_by unit (constant_value unit) z)) (equal_names x y (sym (name_eq-is x y) ∙ g))
         (subst (λ v. IsShaped v (shape_by unit (constant_value unit) x)) (same_Some value s h) here)
-    by false y g s h = table.shaped y s h
+    by false y g s h = table y s h
 
 -- ---- subscripts within their bounds
 

@@ -3,7 +3,7 @@ use Rattle.std.proofs.Common.{◌≡◌, Bool, true, false, Option, Some, None, 
 use Rattle.std.specs.Option.{option_eq, option_map}
 use Rattle.std.proofs.lemmas.List.Folds.{list_any-append}
 use Rattle.hep_machine.specs.Words.{name_eq, Name, Statement, BlockName, same_block}
-use Rattle.hep_values.proofs.BlockNames.{changed}
+use Rattle.hep_names.proofs.BlockNames.{changed}
 use Rattle.hep_storage.specs.Agreement.{AreAmong, with_block, summed}
 use Rattle.hep_storage.specs.BlockContents.{block, HasContents, Has}
 use Rattle.hep_storage.specs.declared.block_contents.BlockContents.{BlockContents}

@@ -2,7 +2,7 @@
 use Rattle.std.specs.Prelude.{◌≡◌, ℕ, Bool, true, false, not, ◌&&◌, ◌||◌, nat_eq, if◌then◌else◌, List, [], ◌∷◌, length, Option, Some, None, is_some, option_to_list}
 use Rattle.std.specs.List.{list_any}
 use Rattle.hep_machine.specs.Words.{Units, BlockName, is_block_among}
-use Rattle.hep_conditions.specs.Words.{least_line, line_when, least_line_of}
+use Rattle.hep_conditions.specs.Words.{line_when}
 use Rattle.hep_storage.specs.BlockContents.{KnownPlaces, Block, block_in}
 use Rattle.hep_storage.specs.Runs.{positions_in}
 use Rattle.hep_storage.specs.SharedPrefix.{departs, in_common}
@@ -70,19 +70,6 @@ with_block (Some c) s = with_list c.list s
 abbrev pub line_after : BlockName → Summed → Option Block → Option ℕ
 line_after b s None = None
 line_after b s (Some c) = line_when (differs_from b s c.list) c.line
-
--- the least line of a block in further units where it differs from an earlier unit
-abbrev pub least_after : BlockName → Summed → Units → Option ℕ
-least_after b s [] = None
-least_after b s (unit ∷ units) = least_line (line_after b s (block_in unit b)) (least_after b (with_block (block_in unit b) s) units)
-
--- the least such line of these blocks
-abbrev pub least_of_blocks : List BlockName → (BlockName → Summed) → Units → Option ℕ
-least_of_blocks bs s units = least_line_of (λ b. least_after b (s b) units) bs
-
--- the least such line of these blocks in one unit
-abbrev pub least_of_left : List BlockName → (BlockName → Summed) → (BlockName → Option Block) → Option ℕ
-least_of_left bs s left = least_line_of (λ b. line_after b (s b) (left b)) bs
 
 -- ---- all lines of differing blocks, by a test of lines
 

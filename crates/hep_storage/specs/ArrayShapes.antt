@@ -16,9 +16,8 @@ IsShaped (Some s) None = ⊥
 IsShaped (Some s) (Some bs) = (s.bounds.items ≡ bs) × (s.count ≡ elements bs)
 
 -- A table has the shapes of arrays of a unit.
-pub record IsTable (unit : List Statement) (constants : Constants) (shapes : Name → Option (Option ArrayShape)) : Type 0 where
-  pub values : value_among constants ≡ constant_value unit
-  pub shaped : (x : Name) (s : Option ArrayShape) → shapes x ≡ Some s → IsShaped s (shape_by unit (constant_value unit) x)
+abbrev pub IsTable : List Statement → (Name → Option (Option ArrayShape)) → Type 0
+IsTable unit shapes = (x : Name) (s : Option ArrayShape) → shapes x ≡ Some s → IsShaped s (shape_by unit (constant_value unit) x)
 
 -- The name in DATA denotes these elements, by these constants.
 abbrev pub Names : List Statement → Constants → Target → DataName → Type 0

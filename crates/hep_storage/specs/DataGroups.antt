@@ -2,7 +2,7 @@
 use Rattle.std.specs.Prelude.{◌≡◌, ℕ, Bool, false, ◌||◌, List, [], ◌∷◌, ◌++◌, Option, Some, None, option_to_list}
 use Rattle.std.specs.List.{flat_map, list_any}
 use Rattle.hep_machine.specs.Words.{DataGroup, DataValue, Target, Name, Statement, Value, Constants, value_among, given_by, Repeated, groups_in, Stretch, elements_named, values_given, type_of, constants_in}
-use Rattle.hep_conditions.specs.Words.{is_misplaced, is_wrong_group, is_given_twice, elements_in, least_line, line_when, type_of_value}
+use Rattle.hep_conditions.specs.Words.{is_misplaced, is_wrong_group, is_given_twice, elements_in, line_when, type_of_value}
 use Rattle.hep_storage.specs.InitializedElements.{IsGiven, given_after}
 use Rattle.hep_storage.specs.declared.initialized_elements.InitializedElements.{InitializedElements}
 use Rattle.hep_storage.specs.declared.runs.Position.{Position}
@@ -30,20 +30,6 @@ run_given known v = run_of_values (values_given (value_among known) v)
 
 abbrev pub is_wrong : List Statement → Constants → Statement → Bool
 is_wrong unit known s = is_misplaced unit s || list_any (is_wrong_group unit known) (groups_in s.form)
-
-abbrev pub wrong_line : List Statement → Constants → List Statement → Option ℕ
-wrong_line unit known [] = None
-wrong_line unit known (s ∷ ss) = least_line (line_when (is_wrong unit known s) s.line) (wrong_line unit (given_by unit known (constants_in s.form)) ss)
-
-abbrev pub twice_line : List Statement → Constants → List Stretch → List Statement → Option ℕ
-twice_line unit known given [] = None
-twice_line unit known given (s ∷ ss) =
-    least_line (line_when (is_given_twice given (elements_in unit known s)) s.line)
-    (twice_line unit (given_by unit known (constants_in s.form)) (elements_in unit known s ++ given) ss)
-
--- the least line of 311, by the constants and elements that were given values before
-abbrev pub data_line : List Statement → Constants → List Stretch → List Statement → Option ℕ
-data_line unit known given ss = least_line (wrong_line unit known ss) (twice_line unit known given ss)
 
 -- the lines of all statements that violate 311
 abbrev pub data_lines : List Statement → Constants → List Stretch → List Statement → List ℕ

@@ -1,9 +1,8 @@
 //! Condition 305: units have a common block otherwise (X3.9-1978, 8.3.3 to 8.3.5).
 ghost use Rattle.std.specs.Prelude.{◌≡◌, ◌||◌, ℕ, Bool, List, None, IfOk, OnOk};
 ghost use Rattle.std.specs.List.{list_any};
-ghost use Rattle.hep_machine.specs.Words.{BlockName, blocks_of};
+ghost use Rattle.hep_machine.specs.Words.{BlockName};
 ghost use Rattle.hep_conditions.specs.Common as conditions;
-ghost use Rattle.hep_conditions.specs.Words.{first_of};
 ghost use Rattle.hep_conditions.specs.declared.violation.Violation.{Violation as PureViolation};
 ghost use Rattle.hep_storage.specs.Agreement as agreement;
 ghost use Rattle.hep_storage.specs.BlockTable.{block_at, summed_in, entry_at};
@@ -11,8 +10,7 @@ ghost use Rattle.hep_storage.specs.BlockTable.{block_at, summed_in, entry_at};
 use crate::block_contents::NamesInBlocks;
 use crate::block_table::{BlockTable, settle};
 use crate::blocks::read_blocks;
-use hep_conditions::Violation;
-use hep_conditions::reported::{add_line, lesser, reported};
+use hep_conditions::reported::add_line;
 use hep_names::ProgramSymbols;
 use hep_source::Name;
 use indexmap::{IndexMap, IndexSet};
@@ -34,62 +32,6 @@ impl Drop for MetBlocks {
             noted,
         } = self;
     }
-}
-
-// The least line of a differing block of a unit, by the names of all its blocks.
-fn least_in_unit(table: &mut BlockTable, named: &[Option<Name>]) -> Option<u32>
-    requires { agreement.AreAmong named.now (λ b. block_at (entry_at table.old b)) }
-    ensures line { (all : List BlockName) → agreement.AreAmong all (λ b. block_at (entry_at table.old b))
-        → result ≡ agreement.least_of_left all (λ b. summed_in (entry_at table.old b)) (λ b. block_at (entry_at table.old b)) }
-    ensures added { (b : BlockName) → summed_in (entry_at table.new b)
-        ≡ agreement.with_block (block_at (entry_at table.old b)) (summed_in (entry_at table.old b)) }
-    ensures none { (b : BlockName) → block_at (entry_at table.new b) ≡ None }
-{
-    let mut least = None;
-    for block in named {
-        least = lesser(least, settle(table, *block));
-    }
-    least
-}
-
-// The least line of a block that differs from the same block of an earlier unit.
-fn least_differing(alloc: Global, program: &ProgramSymbols) -> Result<Option<u32>, AllocError>
-    ensures { IfOk result (λ line. line ≡ agreement.least_of_blocks (blocks_of program.now) (λ b. agreement.nothing_summed) program.now) }
-{
-    let mut met = MetBlocks {
-        table: IndexMap::new(alloc),
-        named: Vec::new(alloc),
-        noted: IndexSet::new(alloc),
-    };
-    let mut least = None;
-    for symbols in program.units() {
-        read_blocks(
-            alloc,
-            symbols,
-            &mut met.table,
-            &mut met.named,
-            &mut met.noted,
-        )?;
-        least = lesser(least, least_in_unit(&mut met.table, &met.named));
-        met.named.clear();
-        met.noted.clear();
-    }
-    Ok(least)
-}
-
-/// The first violation of 305 in a program: a common block differs between two units. A position differs in its type or
-/// in being asynchronous, or a named block has different lengths.
-///
-/// # Errors
-///
-/// Only where memory was refused.
-pub fn common_violation(
-    alloc: Global,
-    program: &ProgramSymbols,
-) -> Result<Option<Violation>, AllocError>
-    ensures { IfOk result (λ violation. violation ≡ first_of (conditions.common_violations program.now)) }
-{
-    Ok(reported(305, least_differing(alloc, program)?))
 }
 
 // Adds the lines of the blocks of a unit, which all have their names here, that differ.

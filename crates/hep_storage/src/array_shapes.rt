@@ -1,20 +1,17 @@
 //! Shapes of arrays by all constants of a unit, and the elements that names in DATA denote (X3.9-1978, 5.2 and 9.2).
-ghost use Rattle.std.specs.Prelude.{◌≡◌, true, Some, IfOk, OnOk, is_some, length, if◌then◌else◌};
+ghost use Rattle.std.specs.Prelude.{◌≡◌, List, true, Some, IfOk, OnOk, is_some, length, if◌then◌else◌};
 ghost use Rattle.std.specs.Option.{option_map};
 ghost use Rattle.indexmap.specs.IndexMap.{get};
-ghost use Rattle.hep_machine.specs.Words.{element_number, is_within, name_eq};
-ghost use Rattle.hep_machine.specs.Arithmetic as arithmetic;
+ghost use Rattle.hep_machine.specs.Words.{element_number, is_within, name_eq, Statement as PureStatement};
 ghost use Rattle.hep_machine.specs.Constants as values;
 ghost use Rattle.hep_machine.specs.Declarations as declarations;
 ghost use Rattle.hep_storage.specs.ArrayShapes as shapes;
 
 use crate::initialized_elements::{DataElements, Element};
 use hep_machine::Bound;
-use hep_names::Symbols;
+use hep_names::{Constants, Symbols, bounds_of, integers};
 use hep_shape::Shape;
 use hep_source::{Dimension, Expr, Name, Target, UpperBound, Value};
-use hep_values::named_constants::constants;
-use hep_values::{Constants, bounds_of, integers};
 use indexmap::IndexMap;
 use std::alloc::{AllocError, Global};
 
@@ -140,40 +137,39 @@ fn array(
 
 /// A table of the shapes of arrays by all constants of a unit. A shape is computed when it is first needed.
 pub struct ShapeTable {
-    pub(crate) constants: Constants,
     pub(crate) shapes: IndexMap<Name, Option<ArrayShape>>,
 }
 
 impl Drop for ShapeTable {
     fn drop(self) {
-        let ShapeTable { constants, shapes } = self;
+        let ShapeTable { shapes } = self;
     }
 }
 
 impl ShapeTable {
     /// Makes a table without shapes.
-    ///
-    /// # Errors
-    ///
-    /// Only where memory was refused.
-    pub fn new(alloc: Global, symbols: &Symbols) -> Result<ShapeTable, AllocError>
-        ensures { IfOk result (λ table. shapes.IsTable symbols.now table.constants (get name_eq table.shapes)) }
+    pub fn new(alloc: Global) -> ShapeTable
+        ensures { (unit : List PureStatement) → shapes.IsTable unit (get name_eq result.shapes) }
     {
-        Ok(ShapeTable {
-            constants: constants(alloc, symbols)?,
+        ShapeTable {
             shapes: IndexMap::new(alloc),
-        })
+        }
     }
 
     // Computes the shape of an array, unless the table has it.
     fn prepare(&mut self, alloc: Global, symbols: &Symbols, name: &Name) -> Result<(), AllocError>
         requires array { declarations.is_array symbols.now name.now ≡ true }
-        requires table { shapes.IsTable symbols.now self.old.constants (get name_eq self.old.shapes) }
-        ensures table { OnOk result (shapes.IsTable symbols.now self.new.constants (get name_eq self.new.shapes)) }
+        requires table { shapes.IsTable symbols.now (get name_eq self.old.shapes) }
+        ensures table { OnOk result (shapes.IsTable symbols.now (get name_eq self.new.shapes)) }
         ensures there { OnOk result (is_some (get name_eq self.new.shapes name.now) ≡ true) }
     {
         if !self.shapes.contains_key(name) {
-            let bounds = bounds_of(alloc, symbols, &self.constants, symbols.dimensions(name))?;
+            let bounds = bounds_of(
+                alloc,
+                symbols,
+                symbols.constants(),
+                symbols.dimensions(name),
+            )?;
             self.shapes.insert(*name, array_shape(bounds))?;
         }
         Ok(())
@@ -191,8 +187,8 @@ impl ShapeTable {
         constants: &Constants,
         target: &Target,
     ) -> Result<DataName, AllocError>
-        requires { shapes.IsTable symbols.now self.old.constants (get name_eq self.old.shapes) }
-        ensures table { OnOk result (shapes.IsTable symbols.now self.new.constants (get name_eq self.new.shapes)) }
+        requires { shapes.IsTable symbols.now (get name_eq self.old.shapes) }
+        ensures table { OnOk result (shapes.IsTable symbols.now (get name_eq self.new.shapes)) }
         ensures named { IfOk result (shapes.Names symbols.now constants.now target.now) }
     {
         let name = &target.occurrence.name;

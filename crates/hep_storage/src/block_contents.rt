@@ -1,10 +1,8 @@
 //! The contents of a common block in a unit, as far as they are known (X3.9-1978, 8.3).
-ghost use Rattle.std.specs.Prelude.{◌≡◌, ◌+◌, ◌++◌, ◌∷◌, [], List, true, false, not, ◌&&◌, Option, Some, None};
-ghost use Rattle.std.specs.Prelude.{IfOk, OnOk, IfSome};
+ghost use Rattle.std.specs.Prelude.{◌≡◌, ◌+◌, ◌++◌, ◌∷◌, [], List, true, false, not, ◌&&◌, Some, None, IfOk, OnOk, IfSome};
 ghost use Rattle.std.specs.Option.{option_and_then};
 ghost use Rattle.indexmap.specs.IndexSet.{contains};
-ghost use Rattle.hep_machine.specs.Words.{name_eq, same_name, BlockName, same_block, names_declared, elements};
-ghost use Rattle.hep_source.specs.declared.name.Name.{Name as PureName};
+ghost use Rattle.hep_machine.specs.Words.{name_eq, same_name, BlockName, same_block, names_declared, elements, Name as PureName};
 ghost use Rattle.hep_storage.specs.BlockContents as blocks;
 ghost use Rattle.hep_storage.specs.Runs.{positions_in};
 ghost use Rattle.hep_types.specs.KnownShapes.{known};

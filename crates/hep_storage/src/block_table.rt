@@ -1,8 +1,6 @@
 //! The table of the common blocks of a program (X3.9-1978, 8.3), which is filled unit by unit.
 ghost use Rattle.std.specs.Prelude.{◌≡◌, ℕ, List, [], true, false, None, Some, Option, if◌then◌else◌};
-ghost use Rattle.hep_source.specs.declared.name.Name.{Name as PureName};
-ghost use Rattle.hep_source.specs.declared.statement.Statement.{Statement as PureStatement};
-ghost use Rattle.hep_machine.specs.Words.{BlockName, same_block};
+ghost use Rattle.hep_machine.specs.Words.{BlockName, same_block, Name as PureName, Statement as PureStatement};
 ghost use Rattle.hep_storage.specs.Agreement.{summed, nothing_summed, with_block, line_after};
 ghost use Rattle.hep_storage.specs.BlockContents.{HasContents, Holds, block};
 ghost use Rattle.hep_storage.specs.BlockTable.{contents_in, summed_in, block_at, entry_at};

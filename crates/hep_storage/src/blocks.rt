@@ -1,9 +1,7 @@
 //! The common blocks of a unit, statement by statement (X3.9-1978, 8.3).
 ghost use Rattle.std.specs.Prelude.{◌≡◌, ◌∷◌, [], None, false, OnOk};
 ghost use Rattle.indexmap.specs.IndexSet.{contains};
-ghost use Rattle.hep_machine.specs.Words.{name_eq, BlockName};
-ghost use Rattle.hep_source.specs.declared.name.Name.{Name as PureName};
-ghost use Rattle.hep_machine.specs.Declarations as declarations;
+ghost use Rattle.hep_machine.specs.Words.{name_eq, BlockName, Name as PureName};
 ghost use Rattle.hep_storage.specs.Agreement.{AreAmong};
 ghost use Rattle.hep_storage.specs.BlockContents as blocks;
 ghost use Rattle.hep_storage.specs.BlockTable.{block_at, summed_in, AreRead, AreListed, entry_at};

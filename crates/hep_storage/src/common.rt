@@ -2,17 +2,14 @@
 ghost use Rattle.std.specs.Prelude.{◌≡◌, ◌+◌, ◌<◌, ◌^◌, ◌++◌, [], ◌&&◌, Some, None, is_some, max, map, if◌then◌else◌, IfOk, OnOk};
 ghost use Rattle.std.specs.Option.{option_eq, unwrap_or};
 ghost use Rattle.indexmap.specs.IndexMap.{get};
-ghost use Rattle.hep_machine.specs.Words.{index_where, name_eq, value_among, constant_value, cells_of_all, BlockName, same_block};
-ghost use Rattle.hep_machine.specs.Words.{block_cells, common_cells};
+ghost use Rattle.hep_machine.specs.Words.{index_where, name_eq, cells_of_all, BlockName, same_block, block_cells, common_cells};
 ghost use Rattle.hep_machine.specs.Declarations as declarations;
 ghost use Rattle.hep_storage.specs.Lengths as reading;
 ghost use Rattle.hep_storage.specs.Lengths.{AreKept, IsUnread};
 
 use hep_names::specification::{block_of, blocks_in};
-use hep_names::{ProgramSymbols, Symbols};
+use hep_names::{ProgramSymbols, Symbols, cells_of};
 use hep_source::{CommonBlock, Declarator, Name, Statement};
-use hep_values::named_constants::constants;
-use hep_values::{Constants, cells_of};
 use indexmap::{IndexMap, IndexSet};
 use std::alloc::{AllocError, Global};
 
@@ -90,17 +87,11 @@ fn add_entries(entries: &mut Vec<CommonItem>, statements: &[Statement]) -> Resul
     Ok(())
 }
 
-fn cells_of_entry(
-    alloc: Global,
-    symbols: &Symbols,
-    constants: &Constants,
-    entry: &CommonItem,
-) -> Result<u32, AllocError>
-    requires { value_among constants.now ≡ constant_value symbols.now }
+fn cells_of_entry(alloc: Global, symbols: &Symbols, entry: &CommonItem) -> Result<u32, AllocError>
     ensures { IfOk result (λ cells. cells ≡ reading.cells_of_entry symbols.now entry.now) }
 {
     match &entry.name {
-        Some(name) => cells_of(alloc, symbols, constants, name),
+        Some(name) => cells_of(alloc, symbols, name),
         None => Ok(0),
     }
 }
@@ -230,9 +221,8 @@ impl CommonBlocks {
         if entries.is_empty() {
             return Ok(());
         }
-        let constants = constants(alloc, symbols)?;
         for entry in entries {
-            let count = cells_of_entry(alloc, symbols, &constants, entry)?;
+            let count = cells_of_entry(alloc, symbols, entry)?;
             self.lengthen(entry.block, unit, count)?;
         }
         Ok(())

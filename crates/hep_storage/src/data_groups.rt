@@ -2,13 +2,9 @@
 ghost use Rattle.std.specs.Prelude.{◌≡◌, ◌&&◌, ◌||◌, not, nat_eq, length, map, IfOk, OnOk};
 ghost use Rattle.std.specs.List.{list_any};
 ghost use Rattle.indexmap.specs.IndexMap.{get};
-ghost use Rattle.hep_source.specs.declared.declaration.DataValue.{DataValue as PureValue};
-ghost use Rattle.hep_source.specs.declared.declaration.Target.{Target as PureTarget};
-ghost use Rattle.hep_machine.specs.Words.{name_eq};
+ghost use Rattle.hep_machine.specs.Words.{name_eq, DataValue as PureValue, Target as PureTarget};
 ghost use Rattle.hep_storage.specs.ArrayShapes.{IsTable};
-ghost use Rattle.hep_machine.specs.Declarations as declarations;
 ghost use Rattle.hep_conditions.specs.Data as conditions;
-ghost use Rattle.hep_conditions.specs.Statements as types;
 ghost use Rattle.hep_storage.specs.DataGroups as groups;
 ghost use Rattle.hep_storage.specs.DataNames as lists;
 ghost use Rattle.hep_storage.specs.Runs.{alike, positions_in};
@@ -17,10 +13,9 @@ ghost use Rattle.hep_storage.specs.RunItems.{agree_as_far};
 use crate::array_shapes::{DataName, ShapeTable};
 use crate::initialized_elements::DataElements;
 use crate::runs::{KnownRuns, Position, PositionRun, agree};
-use hep_names::Symbols;
+use hep_names::{Constants, Symbols, repeat_of, value_of_constant};
 use hep_source::{DataGroup, DataValue, Name, Target};
 use hep_types::{is_dummy, type_of_value};
-use hep_values::{Constants, repeat_of, value_of_constant};
 use std::alloc::{AllocError, Global};
 
 // Whether a value is allowed. A name as value or repeat count must be that of a constant given before.
@@ -79,8 +74,8 @@ fn named_all(
     constants: &Constants,
     targets: &[Target],
 ) -> Result<Vec<DataName>, AllocError>
-    requires { IsTable symbols.now shapes.old.constants (get name_eq shapes.old.shapes) }
-    ensures table { OnOk result (IsTable symbols.now shapes.new.constants (get name_eq shapes.new.shapes)) }
+    requires { IsTable symbols.now (get name_eq shapes.old.shapes) }
+    ensures table { OnOk result (IsTable symbols.now (get name_eq shapes.new.shapes)) }
     ensures named { IfOk result (λ named. lists.NamedAll symbols.now constants.now targets.now named.items) }
 {
     let mut named = Vec::new(alloc);
@@ -209,8 +204,8 @@ pub(crate) fn is_wrong_group(
     constants: &Constants,
     group: &DataGroup,
 ) -> Result<bool, AllocError>
-    requires { IsTable symbols.now shapes.old.constants (get name_eq shapes.old.shapes) }
-    ensures table { OnOk result (IsTable symbols.now shapes.new.constants (get name_eq shapes.new.shapes)) }
+    requires { IsTable symbols.now (get name_eq shapes.old.shapes) }
+    ensures table { OnOk result (IsTable symbols.now (get name_eq shapes.new.shapes)) }
     ensures wrong { IfOk result (λ is_wrong. is_wrong ≡ conditions.is_wrong_group symbols.now constants.now group.now) }
 {
     let targets = group.targets.as_slice();

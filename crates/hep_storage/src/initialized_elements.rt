@@ -2,10 +2,7 @@
 ghost use Rattle.std.specs.Prelude.{◌≡◌, ◌∷◌, [], List, IfOk, OnOk};
 ghost use Rattle.std.specs.List.{list_any};
 ghost use Rattle.indexmap.specs.IndexSet.{contains};
-ghost use Rattle.hep_source.specs.declared.statement.Statement.{Statement as PureStatement};
-ghost use Rattle.hep_source.specs.declared.name.Name.{Name as PureName};
-ghost use Rattle.hep_machine.specs.Words.{same_name, name_eq};
-ghost use Rattle.hep_machine.specs.Data.{Stretch as PureStretch};
+ghost use Rattle.hep_machine.specs.Words.{same_name, name_eq, Statement as PureStatement, Name as PureName, Stretch as PureStretch};
 ghost use Rattle.hep_conditions.specs.Words.{share_element};
 ghost use Rattle.hep_names.specs.Tables.{either};
 ghost use Rattle.hep_storage.specs.InitializedElements.{IsGiven, IsNamed};

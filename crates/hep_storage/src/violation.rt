@@ -1,11 +1,10 @@
 //! 311: where DATA stands, and what it gives values (X3.9-1978, section 9).
-ghost use Rattle.std.specs.Prelude.{◌≡◌, ◌&&◌, ◌||◌, [], ℕ, Bool, not, IfOk, OnOk};
+ghost use Rattle.std.specs.Prelude.{◌≡◌, ◌&&◌, ◌||◌, ℕ, Bool, not, IfOk, OnOk};
 ghost use Rattle.std.specs.List.{list_any};
 ghost use Rattle.indexmap.specs.IndexMap.{get};
 ghost use Rattle.hep_machine.specs.Words.{name_eq, is_nonempty};
 ghost use Rattle.hep_source.specs.Units as units;
 ghost use Rattle.hep_conditions.specs.Data as conditions;
-ghost use Rattle.hep_conditions.specs.Words.{first_of};
 ghost use Rattle.hep_conditions.specs.declared.violation.Violation.{Violation as PureViolation};
 ghost use Rattle.hep_storage.specs.InitializedElements.{Gives};
 ghost use Rattle.hep_storage.specs.DataGroups as passes;
@@ -14,13 +13,11 @@ ghost use Rattle.hep_storage.specs.ArrayShapes.{IsTable};
 use crate::array_shapes::{DataName, ShapeTable};
 use crate::data_groups::is_wrong_group;
 use crate::initialized_elements::InitializedElements;
-use hep_conditions::Violation;
-use hep_conditions::reported::{add_line, lesser, line_when, reported};
-use hep_names::Symbols;
+use hep_conditions::reported::{add_line, line_when};
+use hep_names::data::groups_in;
+use hep_names::named_constants::{constants_in, give};
+use hep_names::{Constants, Symbols};
 use hep_source::{DataGroup, Form, Statement, Target};
-use hep_values::Constants;
-use hep_values::named_constants::give;
-use hep_values::statements::{constants_in, groups_in};
 use std::alloc::{AllocError, Global};
 
 fn is_main(symbols: &Symbols) -> bool
@@ -51,8 +48,8 @@ fn is_any_wrong(
     constants: &Constants,
     groups: &[DataGroup],
 ) -> Result<bool, AllocError>
-    requires { IsTable symbols.now shapes.old.constants (get name_eq shapes.old.shapes) }
-    ensures table { OnOk result (IsTable symbols.now shapes.new.constants (get name_eq shapes.new.shapes)) }
+    requires { IsTable symbols.now (get name_eq shapes.old.shapes) }
+    ensures table { OnOk result (IsTable symbols.now (get name_eq shapes.new.shapes)) }
     ensures wrong { IfOk result (λ is_wrong. is_wrong ≡ list_any (conditions.is_wrong_group symbols.now constants.now) groups.now) }
 {
     for group in groups {
@@ -78,8 +75,8 @@ fn give_target(
     given: &mut InitializedElements,
     target: &Target,
 ) -> Result<bool, AllocError>
-    requires { IsTable symbols.now shapes.old.constants (get name_eq shapes.old.shapes) }
-    ensures table { OnOk result (IsTable symbols.now shapes.new.constants (get name_eq shapes.new.shapes)) }
+    requires { IsTable symbols.now (get name_eq shapes.old.shapes) }
+    ensures table { OnOk result (IsTable symbols.now (get name_eq shapes.new.shapes)) }
     ensures given { IfOk result (Gives symbols.now given.old given.new (passes.elements_of_target symbols.now constants.now target.now)) }
 {
     match shapes.named(alloc, symbols, constants, target)? {
@@ -96,8 +93,8 @@ fn give_targets(
     given: &mut InitializedElements,
     targets: &[Target],
 ) -> Result<bool, AllocError>
-    requires { IsTable symbols.now shapes.old.constants (get name_eq shapes.old.shapes) }
-    ensures table { OnOk result (IsTable symbols.now shapes.new.constants (get name_eq shapes.new.shapes)) }
+    requires { IsTable symbols.now (get name_eq shapes.old.shapes) }
+    ensures table { OnOk result (IsTable symbols.now (get name_eq shapes.new.shapes)) }
     ensures given { IfOk result (Gives symbols.now given.old given.new (passes.elements_of_targets symbols.now constants.now targets.now)) }
 {
     let mut is_twice = false;
@@ -116,8 +113,8 @@ fn give_groups(
     given: &mut InitializedElements,
     groups: &[DataGroup],
 ) -> Result<bool, AllocError>
-    requires { IsTable symbols.now shapes.old.constants (get name_eq shapes.old.shapes) }
-    ensures table { OnOk result (IsTable symbols.now shapes.new.constants (get name_eq shapes.new.shapes)) }
+    requires { IsTable symbols.now (get name_eq shapes.old.shapes) }
+    ensures table { OnOk result (IsTable symbols.now (get name_eq shapes.new.shapes)) }
     ensures given { IfOk result (Gives symbols.now given.old given.new (passes.elements_of_groups symbols.now constants.now groups.now)) }
 {
     let mut is_twice = false;
@@ -138,8 +135,8 @@ fn give_values(
     given: &mut InitializedElements,
     statement: &Statement,
 ) -> Result<bool, AllocError>
-    requires { IsTable symbols.now shapes.old.constants (get name_eq shapes.old.shapes) }
-    ensures table { OnOk result (IsTable symbols.now shapes.new.constants (get name_eq shapes.new.shapes)) }
+    requires { IsTable symbols.now (get name_eq shapes.old.shapes) }
+    ensures table { OnOk result (IsTable symbols.now (get name_eq shapes.new.shapes)) }
     ensures wrong { IfOk result (passes.GivesValues symbols.now constants.now given.old given.new statement.now) }
 {
     let groups = groups_in(&statement.form);
@@ -147,43 +144,6 @@ fn give_values(
     let is_any_wrong = is_any_wrong(alloc, symbols, shapes, constants, groups)?;
     let is_twice = give_groups(alloc, symbols, shapes, constants, given, groups)?;
     Ok(is_misplaced || is_any_wrong || is_twice)
-}
-
-// The least line of a statement that violates 311.
-fn least_wrong(alloc: Global, symbols: &Symbols) -> Result<Option<u32>, AllocError>
-    ensures { IfOk result (λ line. line ≡ passes.data_line symbols.now [] [] symbols.now) }
-{
-    let mut constants = Constants::new(alloc);
-    let mut shapes = ShapeTable::new(alloc, symbols)?;
-    let mut given = InitializedElements::new(alloc);
-    let mut least = None;
-    for statement in symbols.statements() {
-        let is_wrong = give_values(
-            alloc,
-            symbols,
-            &mut shapes,
-            &constants,
-            &mut given,
-            statement,
-        )?;
-        least = lesser(least, line_when(is_wrong, statement.line));
-        let behind = constants_in(&statement.form);
-        give(alloc, symbols, &mut constants, behind)?;
-    }
-    Ok(least)
-}
-
-/// The first violation of 311 in a unit: a DATA statement is outside the main program, gives a value to a name that may
-/// have none or to an element that has one, or has values that don't fit their elements in type or
-/// number (section 9).
-///
-/// # Errors
-///
-/// Only where memory was refused.
-pub fn data_violation(alloc: Global, symbols: &Symbols) -> Result<Option<Violation>, AllocError>
-    ensures { IfOk result (λ violation. violation ≡ first_of (conditions.data_violations symbols.now)) }
-{
-    Ok(reported(311, least_wrong(alloc, symbols)?))
 }
 
 /// The lines of all violations of 311 in a unit, in its order.
@@ -196,7 +156,7 @@ pub fn data_lines(alloc: Global, symbols: &Symbols) -> Result<Vec<u32>, AllocErr
         ≡ list_any (λ (v : PureViolation). test v.line) (conditions.data_violations symbols.now)) }
 {
     let mut constants = Constants::new(alloc);
-    let mut shapes = ShapeTable::new(alloc, symbols)?;
+    let mut shapes = ShapeTable::new(alloc);
     let mut given = InitializedElements::new(alloc);
     let mut lines = Vec::new(alloc);
     for statement in symbols.statements() {
@@ -210,7 +170,7 @@ pub fn data_lines(alloc: Global, symbols: &Symbols) -> Result<Vec<u32>, AllocErr
         )?;
         add_line(&mut lines, line_when(is_wrong, statement.line))?;
         let behind = constants_in(&statement.form);
-        give(alloc, symbols, &mut constants, behind)?;
+        give(alloc, symbols.listed(), &mut constants, behind)?;
     }
     Ok(lines)
 }

@@ -6,8 +6,7 @@ use Rattle.hep_machine.specs.Words.{Level, Process as SourceProcess, State, Unit
 use Rattle.hep_proc.specs.declared.process.Process.{Process}
 use Rattle.hep_proc.specs.Stacks.{Stack, no_stack, stack_of}
 use Rattle.hep_state.specs.declared.core_state.CoreState.{CoreState}
-use Rattle.hep_state.specs.ProcessNumbers.{stack_numbered}
-use Rattle.hep_state.specs.Words.{HasLevels, IsMachineAfter, snapshot_of}
+use Rattle.hep_state.specs.Words.{HasLevels, IsMachineAfter, snapshot_of, stack_numbered}
 use Rattle.hep_state.proofs.ProcessNumbers.{numbered-there}
 use Rattle.hep_views.proofs.WaitingPlaces.{living-top}
 use Rattle.hep_trace.specs.Ancestry.{has_above}

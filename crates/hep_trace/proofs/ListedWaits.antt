@@ -7,9 +7,7 @@ use Rattle.std.proofs.lemmas.Option.{none-some}
 use Rattle.hep_core.specs.CoreValues.{first_listed, listed_after}
 use Rattle.hep_core.proofs.Histories.{number-listed, progress-state}
 use Rattle.hep_machine.specs.declared.event.Entry.{Entry}
-use Rattle.hep_machine.specs.Schedules.{without}
-use Rattle.hep_machine.specs.Step.{step_result_of_top, wanted_of}
-use Rattle.hep_machine.specs.Words.{AreEntries, IsEntry, IsLegal, Level, Process, Progress, State, Units, Wanted, is_number_among, is_waiting, living, opening, progress_after, progress_after_entry, progress_after_step, progress_after_steps, progress_from, run_from, state_after, state_after_turn, step_result_of, wanted_by}
+use Rattle.hep_machine.specs.Words.{AreEntries, IsEntry, IsLegal, Level, Process, Progress, State, Units, Wanted, is_number_among, is_waiting, living, opening, progress_after, progress_after_entry, progress_after_step, progress_after_steps, progress_from, run_from, state_after, state_after_turn, step_result_of, wanted_by, without, step_result_of_top, wanted_of}
 use Rattle.hep_machine.proofs.Held.{among-cases}
 use Rattle.hep_event.specs.Traces.{numbers_from}
 use Rattle.hep_views.specs.declared.listed.Listed.{Listed}

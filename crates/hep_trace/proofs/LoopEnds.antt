@@ -3,8 +3,7 @@ use Rattle.std.proofs.Common.{◌≡◌, ℕ, ◌+ℤ◌, ◌-ℤ◌, ℤ, pos, 
 use Rattle.std.proofs.lemmas.Option.{none-some, same_Some}
 use Rattle.hep_binding.proofs.Calls.{set-numbered}
 use Rattle.hep_machine.specs.declared.event.Kind.{Kind}
-use Rattle.hep_machine.specs.Words.{Activation, Level, Location, Loop, Name, Process, Scope, State, Store, Top, Units, Value, does, ending_loop, fault_of, integer_of, integer_or_overflow, level_after_count, living, loop_at, location_of_name, next_of, numbered, result_after_fault, result_after_increment, result_after_loop_end, result_after_loop_variable, result_after_next, scope_of, state_with_store, step_result_of, stepped, top_of, unit_on_top, variable_of, with_loop, with_process, with_value}
-use Rattle.hep_source.specs.declared.value.Value.TheVariants.{Int}
+use Rattle.hep_machine.specs.Words.{Activation, Level, Location, Loop, Name, Process, Scope, State, Store, Top, Units, Value, does, ending_loop, fault_of, integer_of, integer_or_overflow, level_after_count, living, loop_at, location_of_name, next_of, numbered, result_after_fault, result_after_increment, result_after_loop_end, result_after_loop_variable, result_after_next, scope_of, state_with_store, step_result_of, stepped, top_of, unit_on_top, variable_of, with_loop, with_process, with_value, Int}
 use Rattle.hep_event.specs.Sites.{stored_at}
 use Rattle.hep_event.specs.StepTexts.{fault_added, value_at, value_in}
 use Rattle.hep_event.proofs.StepCases.{step_of_top, one_fault}

@@ -6,8 +6,7 @@ use Rattle.hep_core.specs.CoreValues.{CoreValue, state_of}
 use Rattle.hep_core.proofs.Histories.{state-is}
 use Rattle.hep_core.proofs.GoodTickets.{halted-is}
 use Rattle.hep_layout.specs.Words.{address}
-use Rattle.hep_machine.specs.Words.{Level, Name, Next, Process, State, Top, Units, Value, does, ending_loop, living, location_of_name, run, schedule_of, scope_of, unit_at, unit_of, unit_on_top}
-use Rattle.hep_machine.specs.Control.{variable_of as loop_variable}
+use Rattle.hep_machine.specs.Words.{Level, Name, Next, Process, State, Top, Units, Value, does, ending_loop, living, location_of_name, run, schedule_of, scope_of, unit_at, unit_of, unit_on_top, variable_of as loop_variable}
 use Rattle.hep_trace.proofs.LoopEnds.{Stays, loop-stays, value-stays}
 use Rattle.hep_event.specs.declared.sites.Site.{Site}
 use Rattle.hep_event.specs.Sites.{HasValue, IsSite, IsSiteAfter, IsSomeSite, IsVariableOf, LivesAfter, stored_at}

@@ -7,13 +7,10 @@ use Rattle.hep_code.specs.declared.instruction.Operation.{Operation}
 use Rattle.hep_code.specs.declared.instruction.Operation.TheVariants.{Answer, Evaluate, Purge}
 use Rattle.hep_code.specs.declared.variable.Variable.{Variable}
 use Rattle.hep_code.specs.declared.variable.Variable.TheVariants.{Absent}
-use Rattle.hep_code.specs.NextInCode.{IsAction, IsNext}
-use Rattle.hep_code.specs.Words.{AddressedUnit, ending_of, evaluation_of, operation_of}
+use Rattle.hep_code.specs.Words.{AddressedUnit, ending_of, evaluation_of, operation_of, IsAction, IsNext}
 use Rattle.hep_image.specs.Places.{variable_of}
 use Rattle.hep_machine.specs.Evaluation.{reading}
-use Rattle.hep_machine.specs.Control.{variable_of as loop_variable}
-use Rattle.hep_machine.specs.Words.{Action, Name, Next, Redex, Reference, Statement, Top, Units, Value, function_name, next_of, unit_of, unit_on_top, wants, does, evaluating, referring}
-use Rattle.hep_machine.specs.Words.{testing, assigning, entering_loop, ending_loop, purging, leaving}
+use Rattle.hep_machine.specs.Words.{Action, Name, Next, Redex, Reference, Statement, Top, Units, Value, function_name, next_of, unit_of, unit_on_top, wants, does, evaluating, referring, variable_of as loop_variable, testing, assigning, entering_loop, ending_loop, purging, leaving}
 use Rattle.hep_event.specs.NamedVariables.{IsNamed}
 use Rattle.hep_step.specs.Simulation.{unit_addressed}
 use Rattle.hep_event.specs.AccessedNames.{references_of}

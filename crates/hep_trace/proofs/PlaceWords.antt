@@ -14,8 +14,7 @@ use Rattle.hep_state.specs.Words.{IsMachineAfter}
 use Rattle.hep_state_text.specs.States as states
 use Rattle.hep_state_text.specs.WaitTexts.{place_seen}
 use Rattle.hep_state_text.proofs.WaitTexts.{place-told}
-use Rattle.hep_event.specs.StepTexts.{is_own, place_by}
-use Rattle.hep_event.specs.StepTexts.{place_of as place_of_reference}
+use Rattle.hep_event.specs.StepTexts.{is_own, place_by, place_of as place_of_reference}
 use Rattle.hep_views.specs.declared.place.Place.{Place}
 use Rattle.hep_views.specs.ListedProcesses.{place_of}
 use Rattle.hep_views.specs.CellOwners.{IsSought}

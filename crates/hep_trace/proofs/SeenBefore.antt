@@ -5,13 +5,10 @@ use Rattle.hep_code.specs.declared.instruction.Instruction.{Instruction}
 use Rattle.hep_code.specs.declared.instruction.Operation.{Operation}
 use Rattle.hep_code.specs.declared.instruction.Operation.TheVariants.{Answer}
 use Rattle.hep_code.specs.declared.variable.Variable.{Variable}
-use Rattle.hep_code.specs.NextInCode.{IsAction, IsNext}
-use Rattle.hep_code.specs.Words.{AddressedUnit, ending_of, is_asynchronous}
+use Rattle.hep_code.specs.Words.{AddressedUnit, ending_of, is_asynchronous, IsAction, IsNext}
 use Rattle.hep_image.specs.Places.{variable_of}
 use Rattle.hep_machine.specs.Evaluation.{reading}
-use Rattle.hep_machine.specs.Control.{variable_of as loop_variable}
-use Rattle.hep_machine.specs.Words.{Action, Name, Next, Redex, Reference, State, Statement, Top, Units, Value, next_of, spelling, unit_of, unit_on_top, wants, does, evaluating, referring}
-use Rattle.hep_machine.specs.Words.{testing, assigning, jumping, entering_loop, ending_loop, calling, creating, purging, printing, continuing, leaving}
+use Rattle.hep_machine.specs.Words.{Action, Name, Next, Redex, Reference, State, Statement, Top, Units, Value, next_of, spelling, unit_of, unit_on_top, wants, does, evaluating, referring, variable_of as loop_variable, testing, assigning, jumping, entering_loop, ending_loop, calling, creating, purging, printing, continuing, leaving}
 use Rattle.hep_event.specs.NamedVariables.{IsNamed}
 use Rattle.hep_step.specs.Simulation.{unit_addressed}
 use Rattle.hep_event.specs.StepTexts.{place_of}

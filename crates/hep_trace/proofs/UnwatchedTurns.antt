@@ -1,5 +1,5 @@
 -- Turns that have no line by where they begin.
-use Rattle.std.proofs.Common.{◌≡◌, ℕ, zero, suc, ◌≤◌, Bool, true, false, true≢false, if◌then◌else◌, List, [], ◌∷◌, ◌++◌, Option, Some, None, replicate, refl, sym, ap, ◌∙◌, subst, arith}
+use Rattle.std.proofs.Common.{◌≡◌, ℕ, zero, suc, Bool, true, false, true≢false, if◌then◌else◌, List, [], ◌++◌, Option, Some, None, replicate, refl, sym, ap, ◌∙◌, subst, arith}
 use Rattle.hep_conditions.specs.Words.{IsAccepted}
 use Rattle.hep_core.specs.SilentChoices.{AreChoices}
 use Rattle.hep_core.specs.CoreValues.{CoreValue}

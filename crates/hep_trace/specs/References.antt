@@ -1,6 +1,6 @@
 -- The variable that the next operation of a process names, in the words of its turn's line: docs/RUNS.md, "What each
 -- step did".
-use Rattle.std.specs.Prelude.{◌≡◌, ℕ, zero, suc, ◌&&◌, nat_eq, if◌then◌else◌, List, [], length, Option, Some, None, slice_get}
+use Rattle.std.specs.Prelude.{◌≡◌, ℕ, zero, suc, ◌&&◌, nat_eq, if◌then◌else◌, List, length, Option, Some, None, slice_get}
 use Rattle.std.specs.Option.{option_map}
 use Rattle.hep_code.specs.declared.instruction.Argument.TheVariants.{Referred}
 use Rattle.hep_code.specs.declared.instruction.Instruction.{Instruction}

@@ -1,11 +1,10 @@
 -- The letters that ranges have, by their first letters.
-use Rattle.std.proofs.Common.{◌≡◌, ℕ, zero, suc, ◌+◌, ◌<◌, Bool, true, false, ◌&&◌, ◌||◌, nat_le, nat_lt, Option, Some, None, List, [], ◌∷◌, length, get_or, take, drop, refl, ◌∙◌, ap, arith, slice_set, replicate}
+use Rattle.std.proofs.Common.{◌≡◌, ℕ, zero, suc, ◌+◌, ◌<◌, Bool, true, false, ◌&&◌, ◌||◌, nat_le, nat_lt, Option, Some, None, List, [], ◌∷◌, length, get_or, take, refl, ◌∙◌, ap, arith, slice_set, replicate}
 use Rattle.std.specs.List.{list_any}
 use Rattle.std.proofs.lemmas.Bool.Decides.{nat_tests}
 use Rattle.hep_machine.specs.Words.{LetterRange}
-use Rattle.hep_conditions.specs.Words.{overlap, least_line, line_when}
-use Rattle.hep_types.specs.AmbiguityLines.{reaches, meets, later_letter, least_repeated}
-use Rattle.hep_types.proofs.Ways.{repeated-turn}
+use Rattle.hep_conditions.specs.Words.{overlap}
+use Rattle.hep_types.specs.AmbiguityLines.{reaches, meets, later_letter}
 use Rattle.hep_source.proofs.Tests.{or-assoc, or-turned}
 
 or-none : (a : Bool) → a ≡ (a || false)
@@ -55,11 +54,3 @@ none-reached c (suc k) (suc n) = none-reached c k n
 
 pub none-met : (n : ℕ) (r : LetterRange) → meets (replicate n None) r ≡ false
 none-met n r = none-reached r.first (r.last + 1) n
-
--- a turn of a loop over ranges
-pub overlapping-turn : (us : List (LetterRange × ℕ)) (i : ℕ) (d : LetterRange × ℕ) (best next whole line : Option ℕ) (old new : List (Option ℕ)) (found : Bool) → i < length us
-    → least_line best (least_repeated overlap (meets old) (drop i us)) ≡ whole → next ≡ least_line best line → line ≡ line_when found (get_or us i d).1 → found ≡ meets old (get_or us i d).0
-    → new ≡ slice_set old (get_or us i d).0.first (later_letter (get_or old (get_or us i d).0.first None) (get_or us i d).0.last) → (get_or us i d).0.first < length old
-    → least_line next (least_repeated overlap (meets new) (drop (i + 1) us)) ≡ whole
-overlapping-turn us i d best next whole line old new found lt h n l f e within =
-    repeated-turn overlap us i d best next whole line (meets old) (meets new) found lt h n l f (λ r. ap (λ os. meets os r) e ∙ meets-noted old (get_or us i d).0 r within)

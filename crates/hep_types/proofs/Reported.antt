@@ -17,6 +17,12 @@ use Rattle.hep_types.specs.AmbiguityLines.{given_once, least_named, meets, later
 use Rattle.hep_types.specs.Uses.{uses_of}
 use Rattle.hep_types.proofs.Overlaps.{meets-noted}
 
+-- the lesser of two lines isn't after this line where one of them isn't
+pub by-lesser : (a b : Option ℕ) (line : ℕ) → is_by (least_line a b) line ≡ (is_by a line || is_by b line)
+by-lesser None b line = refl
+by-lesser (Some k) None line = sym (or-false (nat_le k line))
+by-lesser (Some k) (Some l) line = grind (arith, nat_tests)
+
 -- ---- loops
 
 -- a turn of a loop that adds what each element gives
@@ -113,11 +119,6 @@ module _ (test : ℕ → Bool) where
   -- a use of a name is there by a line
   abbrev is_before : Use → Use → Bool
   is_before w u = same_name u.0 w.0 && nat_le u.1 w.1
-
-  by-lesser : (a b : Option ℕ) (line : ℕ) → is_by (least_line a b) line ≡ (is_by a line || is_by b line)
-  by-lesser None b line = refl
-  by-lesser (Some k) None line = sym (or-false (nat_le k line))
-  by-lesser (Some k) (Some l) line = grind (arith, nat_tests)
 
   by-when : (b : Bool) (k line : ℕ) → is_by (line_when b k) line ≡ (b && nat_le k line)
   by-when true k line = refl

@@ -1,19 +1,19 @@
 //! All violations of 309 in a program (X3.9-1978, 8.5, 18.1 and 18.2).
-ghost use Rattle.std.specs.Prelude.{◌≡◌, ◌++◌, ℕ, Bool, IfOk, OnOk};
+ghost use Rattle.std.specs.Prelude.{◌≡◌, ◌++◌, ℕ, Bool, [], not, true, IfOk, OnOk};
 ghost use Rattle.std.specs.List.{flat_map, list_any};
 ghost use Rattle.indexmap.specs.IndexMap.{get};
-ghost use Rattle.hep_machine.specs.Words.{name_eq};
-ghost use Rattle.hep_conditions.specs.Words.{function_types, name_violations};
+ghost use Rattle.hep_machine.specs.Words.{function_named, is_external, is_nonempty, name_eq};
+ghost use Rattle.hep_conditions.specs.Words.{FunctionTypes, function_types, name_violations};
 ghost use Rattle.hep_conditions.specs.declared.violation.Violation.{Violation as PureViolation};
 ghost use Rattle.hep_types.specs.declared.all_ambiguities.Ambiguity.{Ambiguity as PureAmbiguity};
 ghost use Rattle.hep_types.specs.Ambiguities as spec;
+ghost use Rattle.hep_types.specs.Uses as rows;
 ghost use Rattle.hep_types.specs.AmbiguityLines.{least_named};
 
-use crate::ambiguous_names::is_of_the_language;
 use crate::letters::{add_overlapping, letter_ranges};
 use crate::repeated_names::{SeenNames, add, lines_by_name};
 use crate::uses::{Use, UseKind, uses_in_program, uses_of};
-use hep_names::{ProgramSymbols, Symbols};
+use hep_names::{Meaning, ProgramSymbols, Symbols, function_named};
 use hep_source::{Form, Name, Statement};
 use indexmap::{IndexMap, IndexSet};
 use std::alloc::{AllocError, Global};
@@ -109,6 +109,16 @@ fn add_both_ways(
     Ok(())
 }
 
+// Whether the tables of the unit already show that no name is used twice in this way. They show it for names in COMMON.
+fn is_known_once(symbols: &Symbols, way: UseKind) -> bool
+    ensures { result ≡ true → (functions : FunctionTypes) → spec.twice_in functions symbols.now way ≡ [] }
+{
+    match way {
+        UseKind::Common => symbols.are_common_once(),
+        _ => false,
+    }
+}
+
 // Adds the names that a unit uses twice in a way.
 fn add_twice(
     found: &mut Vec<Ambiguity>,
@@ -119,6 +129,9 @@ fn add_twice(
 ) -> Result<(), AllocError>
     ensures { OnOk result (found.new.items ≡ found.old.items ++ spec.twice_in (function_types program.now) symbols.now way) }
 {
+    if is_known_once(symbols, way) {
+        return Ok(());
+    }
     let uses = uses_of(alloc, program, symbols, way)?;
     add_repeated(found, alloc, &uses)?;
     Ok(())
@@ -140,6 +153,33 @@ fn add_given_twice(
     Ok(())
 }
 
+// Whether there are uses. Where there are none, nothing else needs to be examined.
+fn are_some(uses: &[Use]) -> bool
+    ensures { result ≡ is_nonempty uses.now }
+{
+    !uses.is_empty()
+}
+
+// Adds the names that a unit uses in this other way too.
+fn add_other_way(
+    found: &mut Vec<Ambiguity>,
+    alloc: Global,
+    program: &ProgramSymbols,
+    symbols: &Symbols,
+    uses: &[Use],
+    other: UseKind,
+) -> Result<(), AllocError>
+    ensures { OnOk result (found.new.items
+        ≡ found.old.items ++ spec.met_both_ways uses.now (rows.uses_of (function_types program.now) other symbols.now)) }
+{
+    if !are_some(uses) {
+        return Ok(());
+    }
+    let others = uses_of(alloc, program, symbols, other)?;
+    add_both_ways(found, alloc, uses, &others)?;
+    Ok(())
+}
+
 // Adds the names that a unit uses in two ways.
 fn add_two_ways(
     found: &mut Vec<Ambiguity>,
@@ -153,8 +193,7 @@ fn add_two_ways(
         ≡ found.old.items ++ spec.two_ways_in (function_types program.now) symbols.now one other) }
 {
     let uses = uses_of(alloc, program, symbols, one)?;
-    let others = uses_of(alloc, program, symbols, other)?;
-    add_both_ways(found, alloc, &uses, &others)?;
+    add_other_way(found, alloc, program, symbols, &uses, other)?;
     Ok(())
 }
 
@@ -169,10 +208,21 @@ fn add_misused(
     ensures { OnOk result (found.new.items
         ≡ found.old.items ++ flat_map (spec.two_ways_in (function_types program.now) symbols.now one) ways.now) }
 {
+    let uses = uses_of(alloc, program, symbols, one)?;
     for way in ways {
-        add_two_ways(found, alloc, program, symbols, one, *way)?;
+        add_other_way(found, alloc, program, symbols, &uses, *way)?;
     }
     Ok(())
+}
+
+/// A name is that of a function of the language.
+pub fn is_of_the_language(name: &Name) -> bool
+    ensures { result ≡ not (is_external (function_named name.now)) }
+{
+    match function_named(name) {
+        Meaning::External => false,
+        _ => true,
+    }
 }
 
 // Adds the header that gives a function the name of a function of the language.

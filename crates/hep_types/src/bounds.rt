@@ -3,10 +3,7 @@ ghost use Rattle.std.specs.Prelude.{◌≡◌, ◌||◌, ◌&&◌, true, Some, i
 ghost use Rattle.std.specs.List.{list_all, list_any};
 ghost use Rattle.std.specs.Option.{option_map};
 ghost use Rattle.std.specs.Vec.{vec_items};
-ghost use Rattle.hep_source.specs.declared.name.Occurrence.{Occurrence as PureOccurrence};
-ghost use Rattle.hep_machine.specs.Arithmetic as arithmetic;
-ghost use Rattle.hep_machine.specs.Constants as values;
-ghost use Rattle.hep_machine.specs.Words.{value_among, is_nonempty, trees_in_upper};
+ghost use Rattle.hep_machine.specs.Words.{value_among, is_nonempty, trees_in_upper, Occurrence as PureOccurrence};
 ghost use Rattle.hep_conditions.specs.Constants as conditions;
 ghost use Rattle.hep_types.specs.Bounds as walks;
 
@@ -15,10 +12,9 @@ use crate::scope::Scope;
 use crate::types::is_typed_as;
 use crate::variables::{is_dummy, is_plain_integer_scalar};
 use hep_machine::Bound;
-use hep_names::{Symbols, lists, occurrences};
+use hep_names::{Constants, Symbols, bounds_of, lists, occurrences};
 use hep_shape::Shape;
 use hep_source::{Declarator, Dimension, Expr, Name, Occurrence, UpperBound, Value, ValueType};
-use hep_values::{Constants, bounds_of};
 use std::alloc::{AllocError, Global};
 
 // Whether a bound may use this scalar: an integer without `$` that is a dummy argument or in COMMON.

@@ -7,7 +7,6 @@ ghost use Rattle.hep_types.specs.Ambiguities as spec;
 ghost use Rattle.hep_types.specs.AmbiguityLines as passes;
 
 use crate::all_ambiguities::{Ambiguity, add_when};
-use hep_conditions::reported::{lesser, line_when};
 use hep_source::{Form, ImplicitGroup, LetterRange, Statement};
 use std::alloc::{AllocError, Global};
 
@@ -100,19 +99,6 @@ fn note(lasts: &mut LastLetters, range: &LetterRange)
 {
     let first = usize::from(range.first);
     lasts[first] = later_letter(lasts[first], range.last);
-}
-
-/// The least line of a range that has a letter of an earlier range.
-pub(crate) fn least_overlapping(ranges: &[(LetterRange, u32)]) -> Option<u32>
-    ensures { result ≡ passes.least_overlapping ranges.now }
-{
-    let mut lasts = [None; 256];
-    let mut least = None;
-    for (range, line) in ranges {
-        least = lesser(least, line_when(meets(&lasts, range), *line));
-        note(&mut lasts, range);
-    }
-    least
 }
 
 /// Adds each range that has a letter of an earlier range.

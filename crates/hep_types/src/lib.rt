@@ -2,14 +2,13 @@
 //! (15.6.2.3 and 15.9, and docs/LANGUAGE.md, 8 and 9), and 309, on names that denote two things or are declared twice
 //! (18.1 and 18.2).
 //!
-//! Begin with [`type_violation`], [`argument_violation`], [`ambiguous_violation`] and [`ambiguous_unit_violation`], which find the
-//! first violation; [`ambiguities`] finds all of 309. [`Parameters`] are the constants given before a statement, [`Shapes`] the
+//! Begin with [`type_violation`] and [`argument_violation`], which find the first violation; [`ambiguities`] finds all of 309.
+//! [`Parameters`] are the constants given before a statement, [`Shapes`] the
 //! known shapes of arrays, and [`type_of_tree`] is the type of an expression.
 #![tactic(auto)]
 
 pub mod actuals;
 pub mod all_ambiguities;
-pub mod ambiguous_names;
 mod argument_association;
 pub mod bounds;
 pub mod call_violation;
@@ -26,7 +25,6 @@ pub mod violation;
 
 pub use actuals::{ActualClass, actual_class};
 pub use all_ambiguities::{Ambiguity, ambiguities};
-pub use ambiguous_names::{ambiguous_unit_violation, ambiguous_violation};
 pub use argument_association::are_calls_fitting;
 pub use bounds::has_bounds;
 pub use call_violation::argument_violation;

@@ -1,19 +1,17 @@
 //! The constants that PARAMETER gave before a statement (X3.9-1978, 8.6), and constant expressions.
 ghost use Rattle.std.specs.Prelude.{◌≡◌, if◌then◌else◌, is_some, map, IfOk, OnOk};
 ghost use Rattle.std.specs.List.{list_all};
-ghost use Rattle.hep_source.specs.declared.name.Occurrence.{Occurrence as PureOccurrence};
 ghost use Rattle.hep_conditions.specs.Constants as conditions;
 ghost use Rattle.hep_conditions.specs.Statements.{NameWithList as PureReference};
-ghost use Rattle.hep_machine.specs.Words.{value_among, with_constant, listed_meaning};
+ghost use Rattle.hep_machine.specs.Words.{value_among, with_constant, listed_meaning, Occurrence as PureOccurrence};
 ghost use Rattle.hep_names.specs.Lists.{listed};
-ghost use Rattle.hep_values.specs.Evaluation as walks;
+ghost use Rattle.hep_names.specs.Evaluation as walks;
 
 use crate::scope::Scope;
 use crate::types::{agree, is_typed, is_typed_as, type_of_tree};
-use hep_names::{Meaning, NameWithList, Symbols, lists, occurrences};
+use hep_names::evaluation::{ExpressionValue, evaluate};
+use hep_names::{Constants, Meaning, NameSet, NameWithList, Symbols, lists, occurrences};
 use hep_source::{Expr, Name, NamedConstant, Occurrence, Value, ValueType};
-use hep_values::evaluation::{ExpressionValue, evaluate};
-use hep_values::{Constants, NameSet};
 use std::alloc::{AllocError, Global};
 use std::marker::Model;
 
@@ -32,7 +30,7 @@ impl Drop for Parameters {
 
 impl Model for Parameters {
     ghost use Rattle.hep_conditions.specs.Constants.{Parameters as PureParameters};
-    ghost use Rattle.hep_values.specs.Evaluation.{parameters};
+    ghost use Rattle.hep_names.specs.Evaluation.{parameters};
 
     ghost Value = { PureParameters };
 
@@ -79,7 +77,13 @@ impl Parameters {
         ensures is_open { IfOk result (λ e. e.is_open ≡ conditions.is_open symbols.now self.now expression.now) }
         ensures are_parts_known { IfOk result (λ e. e.are_parts_known ≡ walks.are_parts_known symbols.now self.now expression.now) }
     {
-        evaluate(alloc, symbols, &self.known, &self.doubtful, expression)
+        evaluate(
+            alloc,
+            symbols.listed(),
+            &self.known,
+            &self.doubtful,
+            expression,
+        )
     }
 }
 

@@ -2,13 +2,11 @@
 ghost use Rattle.std.specs.Prelude.{◌≡◌, ◌||◌, IfOk, OnOk};
 ghost use Rattle.indexmap.specs.IndexMap.{get};
 ghost use Rattle.indexmap.specs.IndexSet.{contains};
-ghost use Rattle.hep_machine.specs.Words.{same_name, name_eq};
-ghost use Rattle.hep_source.specs.declared.name.Name.{Name as PureName};
+ghost use Rattle.hep_machine.specs.Words.{same_name, name_eq, Name as PureName};
 ghost use Rattle.hep_conditions.specs.Reported as reported;
 ghost use Rattle.hep_types.specs.AmbiguityLines as passes;
 
 use crate::uses::Use;
-use hep_conditions::reported::{lesser, line_when};
 use hep_source::Name;
 use indexmap::{IndexMap, IndexSet};
 use std::alloc::{AllocError, Global};
@@ -45,20 +43,6 @@ pub(crate) fn add(seen: &mut IndexSet<Name>, name: Name) -> Result<bool, AllocEr
     Ok(!seen.insert(name)?)
 }
 
-/// The least line of a use whose name an earlier use has.
-pub(crate) fn least_repeated(alloc: Global, uses: &[Use]) -> Result<Option<u32>, AllocError>
-    ensures { IfOk result (λ line. line ≡ passes.least_repeated_name uses.now) }
-{
-    let set = IndexSet::with_capacity(alloc, uses.len())?;
-    let mut seen = SeenNames { set };
-    let mut least = None;
-    for (name, line) in uses {
-        let is_repeated = add(&mut seen.set, *name)?;
-        least = lesser(least, line_when(is_repeated, *line));
-    }
-    Ok(least)
-}
-
 fn lesser_line(other: Option<u32>, line: u32) -> u32
     ensures { Some result ≡ reported.least_line other (Some line) }
 {
@@ -89,36 +73,4 @@ pub(crate) fn lines_by_name(alloc: Global, uses: &[Use]) -> Result<LinesByName, 
         note_line(&mut lines.map, *name, *line)?;
     }
     Ok(lines)
-}
-
-// The later of the line of a use and the line of its name in the table.
-fn later_line(lines: &IndexMap<Name, u32>, name: &Name, line: u32) -> Option<u32>
-    ensures { result ≡ passes.later_line (get name_eq lines.now) (name.now, line) }
-{
-    match lines.get(name) {
-        Some(other) => Some(line.max(*other)),
-        None => None,
-    }
-}
-
-/// For each of these uses whose name the table has, the later of the two lines; the result is the least of these.
-pub(crate) fn least_met(lines: &IndexMap<Name, u32>, uses: &[Use]) -> Option<u32>
-    ensures { result ≡ passes.least_met (get name_eq lines.now) uses.now }
-{
-    let mut least = None;
-    for (name, line) in uses {
-        least = lesser(least, later_line(lines, name, *line));
-    }
-    least
-}
-
-/// For each two uses of a name, one of each list, the later of the two lines; the result is the least of these.
-pub(crate) fn least_both_ways(
-    alloc: Global,
-    one: &[Use],
-    other: &[Use],
-) -> Result<Option<u32>, AllocError>
-    ensures { IfOk result (λ line. line ≡ passes.least_both_ways one.now other.now) }
-{
-    Ok(least_met(&lines_by_name(alloc, one)?.map, other))
 }

@@ -2,21 +2,20 @@
 ghost use Rattle.std.specs.Prelude.{◌≡◌, IfOk, OnOk};
 ghost use Rattle.std.specs.Option.{option_or};
 ghost use Rattle.indexmap.specs.IndexMap.{get};
-ghost use Rattle.hep_source.specs.declared.name.Name.{Name as PureName};
 ghost use Rattle.hep_conditions.specs.Constants as conditions;
 ghost use Rattle.hep_names.specs.Statements.{rest_after};
-ghost use Rattle.hep_machine.specs.Words.{name_eq};
+ghost use Rattle.hep_machine.specs.Words.{name_eq, Name as PureName};
 ghost use Rattle.hep_types.specs.Shapes as tables;
 ghost use Rattle.hep_types.specs.KnownShapes.{known};
 
 use crate::bounds::shape_given;
 use crate::parameters::Parameters;
 use crate::scope::Scope;
+use hep_names::named_constants::constants_in;
 use hep_names::specification::array_declarators;
 use hep_names::{Symbols, note};
 use hep_shape::Shape;
 use hep_source::{Declarator, Name, Statement};
-use hep_values::statements::constants_in;
 use indexmap::IndexMap;
 use std::alloc::{AllocError, Global};
 use std::marker::Model;
@@ -52,7 +51,6 @@ impl<'a> Model for Shapes<'a> {
     ghost use Rattle.hep_source.specs.contracts.expression.Expr as expression;
     ghost use Rattle.hep_conditions.specs.Constants.{known_shape};
     ghost use Rattle.hep_source.specs.Names.{name_eq};
-    ghost use Rattle.hep_names.specs.Tables.{by_name};
     ghost use Rattle.hep_types.specs.Shapes.{shape_by};
 
     ghost Value = { List PureStatement };

@@ -1,24 +1,24 @@
 //! The names that statements use, by the way of use (X3.9-1978, 18.1 and 18.2).
-ghost use Rattle.std.specs.Prelude.{◌≡◌, [], ◌++◌, map, option_to_list, IfOk, OnOk};
+ghost use Rattle.std.specs.Prelude.{◌≡◌, ◌++◌, map, option_to_list, IfOk, OnOk};
 ghost use Rattle.std.specs.List.{filter, flat_map};
-ghost use Rattle.hep_source.specs.declared.declaration.CommonBlock.{CommonBlock as PureBlock};
 ghost use Rattle.hep_source.specs.Units as units;
 ghost use Rattle.hep_machine.specs.Declarations as declarations;
 ghost use Rattle.hep_conditions.specs.Names as conditions;
 ghost use Rattle.hep_conditions.specs.Statements as statements;
 ghost use Rattle.hep_conditions.specs.Words.{function_types, names_of_lists};
-ghost use Rattle.hep_machine.specs.Words.{is_referenced, names_listed_by};
+ghost use Rattle.hep_machine.specs.Words.{is_referenced, names_listed_by, CommonBlock as PureBlock};
 ghost use Rattle.hep_names.specs.Lists.{listed};
 ghost use Rattle.hep_types.specs.Uses as rows;
 ghost use Rattle.hep_types.specs.Uses.{used_at};
 
+use hep_names::data::groups_in;
+use hep_names::named_constants::constants_in;
 use hep_names::occurrences::{occurrences, occurrences_in_groups};
 use hep_names::specification::{add_declared, block_of, blocks_in};
 use hep_names::{NameWithList, ProgramSymbols, Symbols, is_function_in, names_with_lists};
 use hep_source::{
     CommonBlock, DataGroup, Declarator, Form, Name, NamedConstant, Occurrence, Statement, Target,
 };
-use hep_values::statements::{constants_in, groups_in};
 use std::alloc::{AllocError, Global};
 
 /// A name, and the line of the statement that uses it.

@@ -3,7 +3,6 @@ ghost use Rattle.std.specs.Prelude.{◌≡◌, IfOk};
 ghost use Rattle.hep_machine.specs.Declarations as declarations;
 ghost use Rattle.hep_conditions.specs.Statements as types;
 ghost use Rattle.hep_conditions.specs.Words.{function_types, is_loop_variable, loop_variables, has_loop_variable};
-ghost use Rattle.hep_types.specs.Types as walks;
 
 use hep_conditions::types::same_declared;
 use hep_names::{ProgramSymbols, Symbols, is_function_in};

@@ -14,10 +14,11 @@ use crate::scope::Scope;
 use crate::types::is_typed_as;
 use hep_conditions::Violation;
 use hep_conditions::reported::{lesser, line_when, reported};
+use hep_names::data::groups_in;
+use hep_names::named_constants::constants_in;
 use hep_names::specification::array_declarators;
 use hep_names::{ProgramSymbols, Symbols};
 use hep_source::{DataGroup, Declarator, Expr, Statement, Target, ValueType};
-use hep_values::statements::{constants_in, groups_in};
 use std::alloc::{AllocError, Global};
 
 fn are_conditions(program: &ProgramSymbols, symbols: &Symbols, conditions: &[Expr]) -> bool

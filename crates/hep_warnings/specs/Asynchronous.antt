@@ -1,8 +1,7 @@
 -- Asynchronous variables that no statement fills, or whose values no statement reads (docs/LANGUAGE.md, 9).
 use Rattle.std.specs.Prelude.{Bool, true, false, not, ◌&&◌, if◌then◌else◌, List, [], ◌∷◌, ◌++◌, is_none}
 use Rattle.std.specs.List.{flat_map, list_any}
-use Rattle.hep_machine.specs.Words.{Form, Name, Occurrence, Statement, Target, Tree, Trees, no_trees, occurrence, trees, trees_of, with_list}
-use Rattle.hep_machine.specs.Words.{dummies_of, index_among, is_common, name_eq, names_of_occurrences, occurrences_in, occurrences_in_form}
+use Rattle.hep_machine.specs.Words.{Form, Name, Occurrence, Statement, Target, Tree, Trees, no_trees, occurrence, trees, trees_of, with_list, dummies_of, index_among, is_common, name_eq, names_of_occurrences, occurrences_in, occurrences_in_form}
 use Rattle.hep_source.specs.declared.statement.Form.TheVariants as form
 use Rattle.hep_conditions.specs.Words.{NameWithList, names_with_lists}
 use Rattle.hep_warnings.specs.SingleOccurrences.{refers}

@@ -1,8 +1,7 @@
 //! The standing of the names of a unit: their first lines, and whether they occur once.
 ghost use Rattle.std.specs.Prelude.{◌≡◌, None, Some, if◌then◌else◌, IfOk, OnOk};
 ghost use Rattle.indexmap.specs.IndexMap.{get};
-ghost use Rattle.hep_machine.specs.Words.{name_eq, names_of_occurrences};
-ghost use Rattle.hep_source.specs.declared.name.Name.{Name as PureName};
+ghost use Rattle.hep_machine.specs.Words.{name_eq, names_of_occurrences, Name as PureName};
 ghost use Rattle.hep_warnings.specs.SingleOccurrences as once;
 
 use hep_names::Symbols;

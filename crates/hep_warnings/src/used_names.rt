@@ -2,8 +2,7 @@
 ghost use Rattle.std.specs.Prelude.{◌≡◌, ◌||◌, IfOk, OnOk};
 ghost use Rattle.std.specs.List.{list_any};
 ghost use Rattle.indexmap.specs.IndexSet.{contains};
-ghost use Rattle.hep_machine.specs.Words.{name_eq};
-ghost use Rattle.hep_source.specs.declared.name.Name.{Name as PureName};
+ghost use Rattle.hep_machine.specs.Words.{name_eq, Name as PureName};
 
 use hep_source::Name;
 use indexmap::IndexSet;

@@ -1,5 +1,5 @@
 -- Circles, from one to the next.
-use Rattle.std.proofs.Common.{◌≡◌, ℕ, zero, suc, ◌+◌, ◌<◌, Bool, true, false, List, [], ◌∷◌, ◌++◌, length, map, drop, drop-cons, add-one, get_or, Option, Some, None, refl, sym, ap, ◌∙◌, subst, arith, append_assoc, if◌then◌else◌, nat_eq, nat_lt, slice_get}
+use Rattle.std.proofs.Common.{◌≡◌, ℕ, zero, suc, ◌+◌, ◌<◌, Bool, true, false, List, [], ◌∷◌, ◌++◌, Option, Some, None, refl, sym, ap, ◌∙◌, subst, arith, append_assoc, if◌then◌else◌, nat_eq, nat_lt, slice_get}
 use Rattle.std.specs.Option.{option_flatten, option_map}
 use Rattle.std.proofs.lemmas.Bool.{eqb-true, ne_eqb}
 use Rattle.std.proofs.lemmas.Bool.Decides.{nat_tests}
@@ -155,15 +155,3 @@ pub next-at-reason : (reasons : List Reason) (i : ℕ) (r : Reason) → slice_ge
 next-at-reason reasons i r there =
     ap option_flatten (slice_get-map (next_of reasons) reasons i)
     ∙ ap (λ (o : Option Reason). option_flatten (option_map (next_of reasons) o)) there
-
--- one more of a list that is mapped
-pub mapped : {A B : Type 0} (f : A → B) (xs : List A) (i : ℕ) (x : A) (y : B) (found next whole : List B) → i < length xs
-    → x ≡ get_or xs i x → y ≡ f x
-    → found ++ map f (drop i xs) ≡ whole → next ≡ found ++ y ∷ [] → next ++ map f (drop (i + 1) xs) ≡ whole
-mapped f xs i x y found next whole less there is h e =
-    let cut : drop i xs ≡ x ∷ drop (i + 1) xs =
-    drop-cons xs i x less ∙ ap (λ z. z ∷ drop (suc i) xs) (sym there) ∙ ap (λ n. x ∷ drop n xs) (sym (add-one i)) in
-    ap (λ ys. ys ++ map f (drop (i + 1) xs)) (e ∙ ap (λ z. found ++ z ∷ []) is)
-    ∙ append_assoc found (f x ∷ []) (map f (drop (i + 1) xs))
-    ∙ ap (λ zs. found ++ map f zs) (sym cut)
-    ∙ h

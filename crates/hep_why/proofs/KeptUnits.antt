@@ -5,8 +5,7 @@ use Rattle.std.proofs.lemmas.Bool.{ne_eqb, eqb-true}
 use Rattle.std.proofs.lemmas.Bool.Decides.{nat_tests}
 use Rattle.std.proofs.lemmas.Option.{none-some, same_Some}
 use Rattle.hep_arena.specs.Gaps.{frame_among}
-use Rattle.hep_layout.specs.Words.{FramePart, IsLaid, address, address_of_kept, frame_from, kept_in, place_of_part}
-use Rattle.hep_layout.specs.Addresses.{cell_in}
+use Rattle.hep_layout.specs.Words.{FramePart, IsLaid, address, address_of_kept, frame_from, kept_in, place_of_part, cell_in}
 use Rattle.hep_layout.proofs.Addresses.{address-alike}
 use Rattle.hep_layout.proofs.Frames.{among-with_frame}
 use Rattle.hep_layout.proofs.HeldFrames.{run-last, among-filter, layout-last, layout-more, layout-stays, placed-run}

@@ -6,8 +6,7 @@ use Rattle.hep_blocked.specs.Needs.{if_so, named_location, need_of, need_of_next
 use Rattle.hep_blocked.proofs.Waiting.{waits-unmet}
 use Rattle.hep_machine.specs.declared.event.Kind.{Kind}
 use Rattle.hep_machine.specs.Evaluation.{reading}
-use Rattle.hep_machine.specs.Words.{Level, Location, Next, Process, Redex, Reference, State, StateFunction, Top, Units, Wanted, assigning, does, evaluating, living, location_of_name, next_of, scope_of, spelling, testing, unit_at, unit_of, wanted_by, wants}
-use Rattle.hep_source.specs.declared.function.StateFunction.TheVariants.{IsFull, IsEmpty, ValueOf, SetEmpty, WaitFull}
+use Rattle.hep_machine.specs.Words.{Level, Location, Next, Process, Redex, Reference, State, StateFunction, Top, Units, Wanted, assigning, does, evaluating, living, location_of_name, next_of, scope_of, spelling, testing, unit_at, unit_of, wanted_by, wants, IsFull, IsEmpty, ValueOf, SetEmpty, WaitFull}
 use Rattle.hep_event.specs.AccessedNames.{references_of}
 use Rattle.hep_event.specs.StepTexts.{own_reference}
 use Rattle.hep_event.specs.LineTexts.{reference_text}

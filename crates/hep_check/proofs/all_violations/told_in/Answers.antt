@@ -1,4 +1,4 @@
-use Rattle.std.proofs.Common.{◌+◌, ◌∙◌, drop}
+use Rattle.std.proofs.Common.{◌+◌, drop}
 use Rattle.hep_source.proofs.Tests.{drop_at}
 use Rattle.hep_check.specs.ViolationLines.{lines_at}
 use Rattle.hep_check.specs.AllViolations.{lines_in}

@@ -1,4 +1,4 @@
-use Rattle.std.proofs.Common.{◌≡◌, ◌||◌, ◌++◌, ◌∙◌, ap}
+use Rattle.std.proofs.Common.{◌||◌, ◌∙◌, ap}
 use Rattle.std.specs.List.{list_any}
 use Rattle.hep_control.specs.Sweep.{lines_asked}
 use Rattle.hep_control.proofs.NestingSweeps.{crossing-told}

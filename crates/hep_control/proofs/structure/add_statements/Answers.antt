@@ -1,4 +1,4 @@
-use Rattle.std.proofs.Common.{◌≡◌, ◌+◌, ◌++◌, ◌∙◌, ap, drop, arith}
+use Rattle.std.proofs.Common.{◌+◌, ◌++◌, ◌∙◌, ap, drop, arith}
 use Rattle.std.proofs.lemmas.Grind.{common_steps}
 use Rattle.hep_conditions.specs.Words.{IndexedStatement}
 use Rattle.hep_control.specs.Structure.{statement_lines, variable_at}

@@ -1,4 +1,4 @@
-use Rattle.std.proofs.Common.{◌≡◌, ◌||◌, ◌++◌, ◌∙◌, ap, []}
+use Rattle.std.proofs.Common.{◌||◌, ◌++◌, ◌∙◌, ap}
 use Rattle.std.specs.List.{list_any}
 use Rattle.hep_conditions.specs.Words.{block_violations, indexed_statements, nesting_violations}
 use Rattle.hep_control.specs.Structure.{lines_alone}

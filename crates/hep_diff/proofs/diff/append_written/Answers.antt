@@ -1,7 +1,6 @@
-use Rattle.std.proofs.Common.{◌∙◌, ap}
+use Rattle.std.proofs.Common.{◌∙◌, ap, false}
 use Rattle.hep_outcome.specs.Outcome.{Outcome}
 use Rattle.hep_outcome.specs.Replay.{outcome_of_core}
-use Rattle.std.proofs.Common.{false}
 use Rattle.hep_diff.proofs.Sides.{written-is}
 use Rattle.hep_diff.proofs.diff.append_written.Goals as goal
 

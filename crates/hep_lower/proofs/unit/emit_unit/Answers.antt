@@ -12,7 +12,7 @@ abbrev blank : After-emit_statements → Tables
 blank c = record { names = c.args.names.now; control = c.args.control; starts = record { statements = c.new-statements.result; end = 0 } }
 
 is-blank : (c : After-emit_statements) → AreBlank (blank c)
-is-blank c = record { unit = c.requires.unit; constants = c.requires.constants; few_units = c.requires.few_units; statements = c.new-statements.ensures.items; end = refl }
+is-blank c = record { unit = c.requires.unit; few_units = c.requires.few_units; statements = c.new-statements.ensures.items; end = refl }
 
 pub returns-in_err-tables-clause-refused : goal.returns-in_err-tables-clause-refused
 returns-in_err-tables-clause-refused c =

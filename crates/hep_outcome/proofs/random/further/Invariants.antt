@@ -1,4 +1,4 @@
-use Rattle.std.proofs.Common.{◌≡◌, ◌-◌, ◌≤◌}
+use Rattle.std.proofs.Common.{◌≡◌, ◌-◌}
 use Rattle.hep_core.specs.CoreValues.{free_of}
 use Rattle.hep_outcome.specs.LotDraws.{further}
 use Rattle.hep_outcome.proofs.random.further.Given as goal

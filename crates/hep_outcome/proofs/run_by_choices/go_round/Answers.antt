@@ -1,4 +1,4 @@
-use Rattle.std.proofs.Common.{◌≡◌, ◌∙◌, arith, refl}
+use Rattle.std.proofs.Common.{arith}
 use Rattle.hep_replay.proofs.SilentChoices.{rounds-going}
 use Rattle.hep_outcome.proofs.Schedules.{IsLonger, rounds_made}
 use Rattle.hep_outcome.proofs.run_by_choices.go_round.Goals as goal

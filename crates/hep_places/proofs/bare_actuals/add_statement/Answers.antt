@@ -1,7 +1,7 @@
 use Rattle.std.proofs.Common.{◌∙◌, ap, OnOk, Result, Ok, Err, List, map}
 use Rattle.std.specs.List.{flat_map}
 use Rattle.indexmap.specs.IndexSet.{contains}
-use Rattle.hep_machine.specs.Words.{Name, is_among, name_eq}
+use Rattle.hep_machine.specs.Words.{is_among, name_eq}
 use Rattle.hep_conditions.specs.Words.{NameWithList, names_with_lists}
 use Rattle.hep_names.specs.Lists.{listed}
 use Rattle.hep_names.specs.declared.lists.NameWithList.{NameWithList as Reference}

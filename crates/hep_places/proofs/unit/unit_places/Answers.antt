@@ -2,10 +2,10 @@ use Rattle.std.proofs.Common.{◌≡◌, List, map, ap, ap₂, subst, ◌∙◌}
 use Rattle.std.specs.List.{filter}
 use Rattle.std.specs.Option.{unwrap_or}
 use Rattle.indexmap.specs.IndexMap.{get}
-use Rattle.hep_machine.specs.Words.{Name, Statement, name_eq, dummies_of, unit_at, Values, is_array, names_of}
+use Rattle.hep_machine.specs.Words.{Name, Statement, name_eq, unit_at, is_array, names_of}
 use Rattle.hep_image.specs.Private.{is_private}
 use Rattle.hep_places.specs.declared.unit.UnitPlaces.{UnitPlaces}
-use Rattle.hep_places.specs.DummyArguments.{dummy_found, source_found, source_in}
+use Rattle.hep_places.specs.DummyArguments.{source_in}
 use Rattle.hep_places.specs.StorageStarts.{array_found, variable_among}
 use Rattle.hep_places.specs.FrameOwners.{variables_found}
 use Rattle.hep_places.proofs.Accepted.{no-dummy}
@@ -46,6 +46,6 @@ returns c = λ program u accepted inside same starts few small.
       arrays = c.in_ok-arrays.ensures ∙ ap (λ xs. map (array_found now (found_start now common t) (get name_eq t.bounds)) (filter (is_array now) xs)) names;
       cells = λ i. t.cells;
       private_are = c.in_ok-private.ensures ∙ ap (λ xs. map (λ (x : Name). unwrap_or (get name_eq t.locals x) 0) (filter (is_private now) xs)) c.locals.ensures;
-      dummies = c.in_ok-dummies.ensures ∙ ap (λ (values : Values). map (dummy_found now (source_found now values common (get name_eq t.offsets))) (dummies_of now)) c.in_ok-constants.ensures;
+      dummies = c.in_ok-dummies.ensures;
       in_frame = c.in_ok-frame_variables.ensures ∙ ap₂ (λ ds xs. variables_found now (get name_eq t.locals) ds xs) c.dummies.ensures c.locals-2.ensures;
     }))

@@ -20,7 +20,7 @@ pub returns-then-is_some : goal.returns-then-is_some
 returns-then-is_some c =
     let unit = c.args.unit.now.symbols.now in
     let x = c.args.name in
-    let value = c.get.ensures ∙ ap (λ f. f x) c.requires.constants in
+    let value = c.get.ensures ∙ ap (λ f. f x) c.constants.ensures in
     constant c.args.unit.now.image.now unit x (constant_value unit x) (index_among x (dummies_of unit)) (common_block unit x) (
     ap (λ v. is_some v) (sym value) ∙ sym c.is_some.ensures ∙ c.if-is_some.true)
 
@@ -29,7 +29,7 @@ returns-in-Some c =
     let program = c.args.unit.now.image.now in
     let unit = c.args.unit.now.symbols.now in
     let x = c.args.name in
-    let value = c.get.ensures ∙ ap (λ f. f x) c.requires.constants in
+    let value = c.get.ensures ∙ ap (λ f. f x) c.constants.ensures in
     ap (λ k. source_by program unit x None k (common_block unit x)) (sym c.in-Some.is ∙ c.dummy_position.ensures)
     ∙ plain program unit x (constant_value unit x) (index_among x (dummies_of unit)) (common_block unit x) (
     ap (λ v. is_some v) (sym value) ∙ sym c.is_some.ensures ∙ c.if-is_some.false)
@@ -39,7 +39,7 @@ returns-in_ok-common_place-in-Some-common_block c =
     let program = c.args.unit.now.image.now in
     let unit = c.args.unit.now.symbols.now in
     let x = c.args.name in
-    let value = c.get.ensures ∙ ap (λ f. f x) c.requires.constants in
+    let value = c.get.ensures ∙ ap (λ f. f x) c.constants.ensures in
     ap (λ at. Some (Common at)) c.in_ok-common_place-in-Some-common_block.ensures
     ∙ ap (λ k. source_by program unit x None k (Some c.in-Some-common_block.block)) (sym c.in_default.is ∙ c.dummy_position.ensures)
     ∙ ap (λ b. source_by program unit x None (index_among x (dummies_of unit)) b) (sym c.in-Some-common_block.is ∙ c.common_block.ensures)

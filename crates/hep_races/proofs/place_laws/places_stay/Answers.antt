@@ -1,7 +1,6 @@
 use Rattle.std.proofs.Common.{ap, subst}
 use Rattle.std.specs.Option.{unwrap_or}
-use Rattle.hep_machine.specs.Laws.{IsSameOrOneMore}
-use Rattle.hep_machine.specs.Words.{State}
+use Rattle.hep_machine.specs.Words.{State, IsSameOrOneMore}
 use Rattle.hep_races.proofs.PlacesTold.{place-kept, there-kept}
 use Rattle.hep_races.proofs.place_laws.places_stay.Goals as goal
 

@@ -1,5 +1,5 @@
-use Rattle.std.proofs.Common.{◌≡◌, ◌≢◌, ◌<◌, ℕ, zero, suc, List, [], ◌∷◌, length, arith, inl, inr}
-use Rattle.hep_machine.specs.Words.{Statement, Units, unit_at}
+use Rattle.std.proofs.Common.{◌≢◌, zero, suc, List, [], ◌∷◌, arith, inl, inr}
+use Rattle.hep_machine.specs.Words.{Statement, Units}
 use Rattle.hep_parse.specs.Program.{AreSubroutines, AreUnits, IsUnit}
 use Rattle.hep_lower.specs.PartCounts.{HaveStatements}
 use Rattle.hep_run.proofs.front_end.limits_of_sources_are_wide.Goals as goal

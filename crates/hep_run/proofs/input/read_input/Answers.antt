@@ -1,4 +1,4 @@
-use Rattle.std.proofs.Common.{◌+◌, ◌≤◌, ◌++◌, length, length-append, take, arith}
+use Rattle.std.proofs.Common.{◌+◌, ◌++◌, length-append, take, arith}
 use Rattle.std.proofs.KnownBytes.{Consumes-trans}
 use Rattle.hep_outcome.proofs.Wanted.{on-err-anyway}
 use Rattle.hep_run.proofs.input.read_input.Goals as goal

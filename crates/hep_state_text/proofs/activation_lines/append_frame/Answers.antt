@@ -13,7 +13,7 @@ append_locals-requires c = (
   c.requires.3.after.after.layout,
   c.requires.2,
   frame-at c.args.storage.now (run c.args.storage.now.image.now c.requires.1) c.requires.3.after.after.layout c.requires.2 c.args.held.key c.requires.3.under _ c.unit-number.result c.first-first.result c.units.result.now
-      (c.unit-number.ensures c.requires.3.under.node c.requires.3.under.there) (c.first-first.ensures c.requires.3.under.node c.requires.3.under.there) c.units.ensures c.index-units-number.is c.in_ok-constants.ensures c.unit-code.ensures,
+      (c.unit-number.ensures c.requires.3.under.node c.requires.3.under.there) (c.first-first.ensures c.requires.3.under.node c.requires.3.under.there) c.units.ensures c.index-units-number.is c.unit-code.ensures,
 )
 
 pub append_values-requires : goal.append_values-requires
@@ -23,7 +23,7 @@ append_values-requires c = (
   c.requires.3.after.after.layout,
   c.requires.2,
   frame-at c.args.storage.now (run c.args.storage.now.image.now c.requires.1) c.requires.3.after.after.layout c.requires.2 c.args.held.key c.requires.3.under _ c.unit-number.result c.first-first.result c.units.result.now
-      (c.unit-number.ensures c.requires.3.under.node c.requires.3.under.there) (c.first-first.ensures c.requires.3.under.node c.requires.3.under.there) c.units.ensures c.index-units-number.is c.in_ok-constants.ensures c.unit-code.ensures,
+      (c.unit-number.ensures c.requires.3.under.node c.requires.3.under.there) (c.first-first.ensures c.requires.3.under.node c.requires.3.under.there) c.units.ensures c.index-units-number.is c.unit-code.ensures,
 )
 
 pub returns-then-not-held : goal.returns-then-not-held
@@ -36,7 +36,7 @@ returns-then-not-held c cells choices a h =
     let values : List ℕ = flat_map (words.value_text program s (scope_of program s a)) (dummies_of symbols) in
     let number_is = c.unit-number.ensures h.under.node h.under.there in
     let at = frame-at c.args.storage.now (run c.args.storage.now.image.now choices) h.after.after.layout a c.args.held.key h.under _ c.unit-number.result c.first-first.result c.units.result.now
-    (c.unit-number.ensures h.under.node h.under.there) (c.first-first.ensures h.under.node h.under.there) c.units.ensures c.index-units-number.is c.in_ok-constants.ensures c.unit-code.ensures in
+    (c.unit-number.ensures h.under.node h.under.there) (c.first-first.ensures h.under.node h.under.there) c.units.ensures c.index-units-number.is c.unit-code.ensures in
     let variables =
     c.in_ok-append_values.ensures program s layout a at
     ∙ ap (λ (xs : List ℕ). xs ++ values) (c.in_ok-append_locals.ensures program s layout a at ∙ ap (λ (xs : List ℕ). xs ++ locals) c.in_ok-append_activation.ensures)
@@ -52,7 +52,7 @@ append_associations-requires c = (
   stacked-at c.args.storage.now c.args.machine c.args.held c.requires.0 c.requires.1 c.requires.2 c.requires.3 (not-false c.args.held.is_stacked c.if-not-held.false) _ c.first-first.result
       (c.first-first.ensures c.requires.3.under.node c.requires.3.under.there) (
       frame-at c.args.storage.now (run c.args.storage.now.image.now c.requires.1) c.requires.3.after.after.layout c.requires.2 c.args.held.key c.requires.3.under _ c.unit-number.result c.first-first.result c.units.result.now
-      (c.unit-number.ensures c.requires.3.under.node c.requires.3.under.there) (c.first-first.ensures c.requires.3.under.node c.requires.3.under.there) c.units.ensures c.index-units-number.is c.in_ok-constants.ensures c.unit-code.ensures),
+      (c.unit-number.ensures c.requires.3.under.node c.requires.3.under.there) (c.first-first.ensures c.requires.3.under.node c.requires.3.under.there) c.units.ensures c.index-units-number.is c.unit-code.ensures),
 )
 
 pub returns : goal.returns
@@ -65,7 +65,7 @@ returns c cells choices a h =
     let values : List ℕ = flat_map (words.value_text program s (scope_of program s a)) (dummies_of symbols) in
     let number_is = c.unit-number.ensures h.under.node h.under.there in
     let at = frame-at c.args.storage.now (run c.args.storage.now.image.now choices) h.after.after.layout a c.args.held.key h.under _ c.unit-number.result c.first-first.result c.units.result.now
-    (c.unit-number.ensures h.under.node h.under.there) (c.first-first.ensures h.under.node h.under.there) c.units.ensures c.index-units-number.is c.in_ok-constants.ensures c.unit-code.ensures in
+    (c.unit-number.ensures h.under.node h.under.there) (c.first-first.ensures h.under.node h.under.there) c.units.ensures c.index-units-number.is c.unit-code.ensures in
     let variables =
     c.in_ok-append_values.ensures program s layout a at
     ∙ ap (λ (xs : List ℕ). xs ++ values) (c.in_ok-append_locals.ensures program s layout a at ∙ ap (λ (xs : List ℕ). xs ++ locals) c.in_ok-append_activation.ensures)

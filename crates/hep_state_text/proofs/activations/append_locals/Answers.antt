@@ -27,7 +27,7 @@ pub loop-index-preserved : goal.loop-index-preserved
 loop-index-preserved c program s layout a h =
     let xs = c.locals-name-items.result.now in
     let i = c.loop-index.index in
-    let symbols = c.args.unit.now.names.symbols.now in
+    let symbols = c.args.unit.now.symbols.now in
     let same = c.locals-name-items.ensures in
     let at = kept program s layout a c.args.unit.now c.args.first c.args.frames.now.arena h xs same i _ c.loop-index-test.true c.as_slice.result.now c.as_slice.ensures c.dummies-dummies.result.now c.dummies-dummies.ensures _ c.in_ok-cells.cells c.in_ok-cells.ensures in
     let line = line-is program s layout a c.args.unit.now c.args.first c.args.frames.now.arena h xs same i _ c.loop-index-test.true c.in_ok-variable.variable c.deref.result.now c.in_ok-cells.cells c.in_ok-variable.ensures c.in_ok-cells.ensures
@@ -38,7 +38,7 @@ loop-index-preserved c program s layout a h =
 
 pub returns : goal.returns
 returns c program s layout a h =
-    let xs = locals_of c.args.unit.now.names.symbols.now in
+    let xs = locals_of c.args.unit.now.symbols.now in
     sym (append-nil c.loop-index.text.items)
     ∙ ap (λ (zs : List Name). c.loop-index.text.items ++ flat_map (words.own_text program s (scope_of program s a)) zs) (sym (drop_all c.loop-index.index xs (omega (arith, c.loop-index-test.false, ap length c.locals-name-items.ensures))))
     ∙ c.loop-index.invariant program s layout a h

@@ -8,5 +8,5 @@ use Rattle.hep_state_text.proofs.activations.append_locals.Given as goal
 abbrev pub invariant-loop-index : goal.invariant-loop-index
 invariant-loop-index l =
     (program : Units) (s : State) (layout : Layout) (a : ℕ) → IsFrameAt program s layout a l.unit l.first l.frames.arena
-    → l.text.items ++ flat_map (words.own_text program s (scope_of program s a)) (drop l.index (locals_of l.unit.names.symbols.now))
-    ≡ l.initial.text.items ++ flat_map (words.own_text program s (scope_of program s a)) (locals_of l.unit.names.symbols.now)
+    → l.text.items ++ flat_map (words.own_text program s (scope_of program s a)) (drop l.index (locals_of l.unit.symbols.now))
+    ≡ l.initial.text.items ++ flat_map (words.own_text program s (scope_of program s a)) (locals_of l.unit.symbols.now)

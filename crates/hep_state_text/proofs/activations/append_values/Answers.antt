@@ -28,7 +28,7 @@ loop-index-preserved c program s layout a h =
     let ds = c.dummies-dummy-items.result.now in
     let same = c.dummies-dummy-items.ensures in
     let i = c.loop-index.index in
-    let symbols = c.args.unit.now.names.symbols.now in
+    let symbols = c.args.unit.now.symbols.now in
     let line = lines-are program s layout a c.args.unit.now c.args.first c.args.frames.now.arena h ds same i none c.loop-index-test.true c.as_slice.result.now c.as_slice.ensures no_variable in
     grow (words.value_text program s (scope_of program s a)) c.loop-index.text.items c.append_value.new.text.items _ _ (drop i (dummies_of symbols)) (drop (i + 1) (dummies_of symbols)) (c.loop-index.invariant program s layout a h)
     (c.in_ok-append_value.ensures ∙ ap (λ (l : List ℕ). c.loop-index.text.items ++ l) (ap (value_line _ _) c.value_at.ensures ∙ line))
@@ -36,7 +36,7 @@ loop-index-preserved c program s layout a h =
 
 pub returns : goal.returns
 returns c program s layout a h =
-    let xs = dummies_of c.args.unit.now.names.symbols.now in
+    let xs = dummies_of c.args.unit.now.symbols.now in
     let long = length-map c.dummies-dummy-items.result.now (λ (p : Occurrence). p.name) in
     sym (append-nil c.loop-index.text.items)
     ∙ ap (λ (zs : List Name). c.loop-index.text.items ++ flat_map (words.value_text program s (scope_of program s a)) zs) (sym (drop_all c.loop-index.index xs (omega (arith, c.loop-index-test.false, long, ap length c.dummies-dummy-items.ensures))))

@@ -45,7 +45,7 @@ loop-index-preserved c cells choices a h =
     let ds = c.dummies-dummy-items.result.now in
     let same = c.dummies-dummy-items.ensures in
     let i = c.loop-index.index in
-    let symbols = c.args.unit.now.names.symbols.now in
+    let symbols = c.args.unit.now.symbols.now in
     let dummy = dummy-at c.args.frame.now c.args.unit.now cells choices a h ds same i none c.loop-index-test.true c.as_slice.result.now c.as_slice.ensures no_variable c.first-first.result
     (c.first-first.ensures h.under.node h.under.there) in
     grow (words.association_text program s (scope_of program s a)) c.loop-index.text.items c.append_line.new.text.items _ _ (drop i (dummies_of symbols)) (drop (i + 1) (dummies_of symbols)) (c.loop-index.invariant cells choices a h)
@@ -56,7 +56,7 @@ pub returns : goal.returns
 returns c cells choices a h =
     let program = c.args.frame.now.image.now in
     let s = run program choices in
-    let xs = dummies_of c.args.unit.now.names.symbols.now in
+    let xs = dummies_of c.args.unit.now.symbols.now in
     let long = length-map c.dummies-dummy-items.result.now (λ (p : Occurrence). p.name) in
     sym (append-nil c.loop-index.text.items)
     ∙ ap (λ (zs : List Name). c.loop-index.text.items ++ flat_map (words.association_text program s (scope_of program s a)) zs) (sym (drop_all c.loop-index.index xs (omega (arith, c.loop-index-test.false, long, ap length c.dummies-dummy-items.ensures))))

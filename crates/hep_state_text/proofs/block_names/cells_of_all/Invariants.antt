@@ -5,6 +5,6 @@ use Rattle.hep_state_text.proofs.block_names.cells_of_all.Given as goal
 abbrev pub invariant-loop-name : goal.invariant-loop-name
 invariant-loop-name l =
     record {
-      so_far : l.sum + cells_of_all l.names.symbols.now (drop l.name-index l.list) ≡ cells_of_all l.names.symbols.now l.list;
+      so_far : l.sum + cells_of_all l.symbols (drop l.name-index l.list) ≡ cells_of_all l.symbols l.list;
       few : l.sum ≤ 4294967296 * l.name-index;
     }

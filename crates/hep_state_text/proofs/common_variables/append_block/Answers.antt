@@ -21,7 +21,7 @@ append_variables-requires c =
       program,
       run program after.1,
       after.2.after.layout,
-      block-at c.args.storage.now c.args.machine.now c.requires.storage after.0 after.1 after.2 c.is_runnable.ensures.accepted c.args.extent c.requires.extent number _ here c.in_ok-constants.ensures listed refl,
+      block-at c.args.storage.now c.args.machine.now c.requires.storage after.0 after.1 after.2 c.is_runnable.ensures.accepted c.args.extent c.requires.extent number _ here listed refl,
     )
 
 pub returns : goal.returns
@@ -38,6 +38,6 @@ returns c cells choices h =
     let own = c.in_ok-number.ensures.unit ∙ ap (λ (us : Units). words.unit_of_block us c.args.extent.block) symbols in
     let chosen : unit ≡ words.unit_of_block program c.args.extent.block = sym (unit-is program number unit here) ∙ ap (λ (us : Units). unit_at us number) (sym symbols) ∙ own in
     let title = c.as_slice-3.ensures ∙ c.in_ok-unit.ensures ∙ ap unit_name (c.index-as_slice-number.is ∙ (λ i. get_or ((c.as_slice.ensures ∙ c.program.ensures) i) number c.index-as_slice-number.result) ∙ get_or-same program number c.index-as_slice-number.result unit inside ∙ sym read) in
-    c.in_ok-append_variables.ensures program s h.after.layout (block-at c.args.storage.now c.args.machine.now c.requires.storage cells choices h c.is_runnable.ensures.accepted c.args.extent c.requires.extent number _ here c.in_ok-constants.ensures listed refl)
+    c.in_ok-append_variables.ensures program s h.after.layout (block-at c.args.storage.now c.args.machine.now c.requires.storage cells choices h c.is_runnable.ensures.accepted c.args.extent c.requires.extent number _ here listed refl)
     ∙ ap (λ (xs : List ℕ). xs ++ flat_map (words.own_text program s (words.common_scope program s unit)) c.deref.result.now) c.in_ok-append_block.ensures
     ∙ lines-are c.args.storage.now c.args.machine.now c.requires.storage cells choices h c.is_runnable.ensures.accepted c.args.extent.block unit c.deref.result.now c.args.text.now.items c.as_slice-2.result.now c.as_slice-3.result.now chosen listed (c.as_slice-2.ensures ∙ c.in_ok-name.ensures) title

@@ -28,7 +28,7 @@ pub loop-name-preserved : goal.loop-name-preserved
 loop-name-preserved c =
     let i = c.loop-name.name-index in
     let list = c.args.block.now.list.now in
-    let unit = c.args.block.now.names.symbols.now in
+    let unit = c.args.block.now.symbols.now in
     record {
       at = taken-next unit c.args.block.now.first list i none c.loop-name-test.true c.loop-name.at c.in_ok-cells.cells c.loop-name.invariant.at c.in_ok-cells.ensures;
       so_far = λ program s layout h.
@@ -44,5 +44,5 @@ pub returns : goal.returns
 returns c program s layout h =
     let xs = c.args.block.now.list.now in
     sym (append-nil c.loop-name.text.items)
-    ∙ ap (λ (zs : List Name). c.loop-name.text.items ++ flat_map (words.own_text program s (words.common_scope program s c.args.block.now.names.symbols.now)) zs) (sym (drop_all c.loop-name.name-index xs (omega (arith, c.loop-name-test.false))))
+    ∙ ap (λ (zs : List Name). c.loop-name.text.items ++ flat_map (words.own_text program s (words.common_scope program s c.args.block.now.symbols.now)) zs) (sym (drop_all c.loop-name.name-index xs (omega (arith, c.loop-name-test.false))))
     ∙ c.loop-name.invariant.so_far program s layout h

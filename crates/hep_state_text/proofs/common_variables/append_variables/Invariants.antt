@@ -8,8 +8,8 @@ use Rattle.hep_state_text.proofs.common_variables.append_variables.Given as goal
 abbrev pub invariant-loop-name : goal.invariant-loop-name
 invariant-loop-name l =
     record {
-      at : l.at ≡ l.block.first + cells_of_all l.block.names.symbols.now (take l.name-index l.block.list.now);
+      at : l.at ≡ l.block.first + cells_of_all l.block.symbols.now (take l.name-index l.block.list.now);
       so_far : (program : Units) (s : State) (layout : Layout) → IsBlockAt program s layout l.block l.frames.arena
-          → l.text.items ++ flat_map (words.own_text program s (words.common_scope program s l.block.names.symbols.now)) (drop l.name-index l.block.list.now)
-          ≡ l.initial.text.items ++ flat_map (words.own_text program s (words.common_scope program s l.block.names.symbols.now)) l.block.list.now;
+          → l.text.items ++ flat_map (words.own_text program s (words.common_scope program s l.block.symbols.now)) (drop l.name-index l.block.list.now)
+          ≡ l.initial.text.items ++ flat_map (words.own_text program s (words.common_scope program s l.block.symbols.now)) l.block.list.now;
     }

@@ -2,7 +2,7 @@ use Rattle.std.proofs.Common.{◌≡◌, ◌∙◌, ap, subst, sym, IsSome, Some
 use Rattle.std.specs.Option.{option_eq}
 use Rattle.indexmap.specs.IndexMap.{get}
 use Rattle.hep_machine.specs.Words.{name_eq, same_block}
-use Rattle.hep_values.proofs.BlockNames.{changed}
+use Rattle.hep_names.proofs.BlockNames.{changed}
 use Rattle.hep_storage.specs.Lengths.{lengthened}
 use Rattle.hep_storage.proofs.common.is_lengthened.Goals as goal
 

@@ -1,5 +1,5 @@
 use Rattle.std.proofs.Common.{Some, ◌∙◌}
-use Rattle.hep_values.proofs.BlockNames.{changed}
+use Rattle.hep_names.proofs.BlockNames.{changed}
 use Rattle.hep_storage.proofs.common.set_length.Goals as goal
 
 pub returns : goal.returns

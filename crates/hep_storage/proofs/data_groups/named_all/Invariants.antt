@@ -7,4 +7,4 @@ use Rattle.hep_storage.proofs.data_groups.named_all.Given as goal
 
 abbrev pub invariant-loop-target : goal.invariant-loop-target
 invariant-loop-target l =
-    IsTable l.symbols l.shapes.constants (get name_eq l.shapes.shapes) × NamedAll l.symbols l.constants (take l.target-index l.targets) l.named.items
+    IsTable l.symbols (get name_eq l.shapes.shapes) × NamedAll l.symbols l.constants (take l.target-index l.targets) l.named.items

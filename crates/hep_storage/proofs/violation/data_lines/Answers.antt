@@ -12,7 +12,7 @@ pub loop-statement-init : goal.loop-statement-init
 loop-statement-init c =
     let unit = c.args.symbols.now in
     let ss = c.statements-statement-items.result.now in
-    (c.in_ok-shapes.ensures, ([], c.new-given.ensures unit, λ i. c.new-lines.ensures.items i ++ data_lines unit (c.new-constants.ensures i) [] ss))
+    (c.new-shapes.ensures unit, ([], c.new-given.ensures unit, λ i. c.new-lines.ensures.items i ++ data_lines unit (c.new-constants.ensures i) [] ss))
 
 pub loop-statement-preserved : goal.loop-statement-preserved
 loop-statement-preserved c =
@@ -31,7 +31,7 @@ loop-statement-preserved c =
         lines-turn unit known so_far.0 s (drop i ss) (drop (i + 1) ss) c.give.new.constants found c.add_line.new.lines.items _ c.in_ok-is_wrong.is_wrong
             (drop_at ss i s c.loop-statement-test.true c.statement-item.is) so_far.2 turned.0
             (c.in_ok-add_line.ensures ∙ ap (λ o. found ++ option_to_list o) c.line_when.ensures)
-            (c.in_ok-give.ensures ∙ ap (λ cs. value_among (given_by unit known cs)) c.constants_in-behind.ensures),
+            (c.in_ok-give.ensures ∙ (λ j. value_among (given_by (c.listed.ensures j) known (c.constants_in-behind.ensures j)))),
       ),
     )
 

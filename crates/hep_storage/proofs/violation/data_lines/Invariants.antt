@@ -8,6 +8,6 @@ use Rattle.hep_storage.proofs.violation.data_lines.Given as goal
 
 abbrev pub invariant-loop-statement : goal.invariant-loop-statement
 invariant-loop-statement l =
-    IsTable l.symbols l.shapes.constants (get name_eq l.shapes.shapes)
+    IsTable l.symbols (get name_eq l.shapes.shapes)
     × ((given : List Stretch) × IsGiven l.symbols given l.given
     × (l.lines.items ++ data_lines l.symbols l.constants given (drop l.statement-index l.statement-items) ≡ data_lines l.symbols [] [] l.statement-items))

@@ -8,5 +8,5 @@ use Rattle.hep_storage.proofs.violation.give_groups.Given as goal
 
 abbrev pub invariant-loop-group : goal.invariant-loop-group
 invariant-loop-group l =
-    IsTable l.symbols l.shapes.constants (get name_eq l.shapes.shapes)
+    IsTable l.symbols (get name_eq l.shapes.shapes)
     × Gives l.symbols l.initial.given l.given (elements_of_groups l.symbols l.constants (take l.group-index l.groups)) l.is_twice

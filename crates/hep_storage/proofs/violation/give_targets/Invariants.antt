@@ -8,5 +8,5 @@ use Rattle.hep_storage.proofs.violation.give_targets.Given as goal
 
 abbrev pub invariant-loop-target : goal.invariant-loop-target
 invariant-loop-target l =
-    IsTable l.symbols l.shapes.constants (get name_eq l.shapes.shapes)
+    IsTable l.symbols (get name_eq l.shapes.shapes)
     × Gives l.symbols l.initial.given l.given (elements_of_targets l.symbols l.constants (take l.target-index l.targets)) l.is_twice

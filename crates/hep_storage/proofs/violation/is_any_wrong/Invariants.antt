@@ -8,5 +8,5 @@ use Rattle.hep_storage.proofs.violation.is_any_wrong.Given as goal
 
 abbrev pub invariant-loop-group : goal.invariant-loop-group
 invariant-loop-group l =
-    IsTable l.symbols l.shapes.constants (get name_eq l.shapes.shapes)
+    IsTable l.symbols (get name_eq l.shapes.shapes)
     × (list_any (is_wrong_group l.symbols l.constants) (drop l.group-index l.groups) ≡ list_any (is_wrong_group l.symbols l.constants) l.groups)

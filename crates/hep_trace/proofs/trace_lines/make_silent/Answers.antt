@@ -1,4 +1,4 @@
-use Rattle.std.proofs.Common.{◌≡◌, [], replicate, refl, sym, ◌∙◌, subst}
+use Rattle.std.proofs.Common.{◌≡◌, [], replicate, refl, sym, subst}
 use Rattle.hep_conditions.specs.Words.{IsAccepted}
 use Rattle.hep_core.proofs.Histories.{progress-state}
 use Rattle.hep_why.specs.Progress.{AreMade, begun}

@@ -10,8 +10,8 @@ returns c replay =
       bounds = c.in_ok-bounds.ensures;
       watches = c.in_ok-watches.ensures;
       noted = [];
-      detected = c.new-2.ensures;
+      detected = c.new-3.ensures;
       same = none 0;
-      counted = c.new-2.ensures.steps;
+      counted = c.new-3.ensures.steps;
       first = λ alone. refl;
     }

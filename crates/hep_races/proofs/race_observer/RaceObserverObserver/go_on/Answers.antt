@@ -33,6 +33,7 @@ returns-then-not-is_alone-clause-seen c at =
       names = old.names;
       bounds = old.bounds;
       watches = old.watches;
+      accesses = old.accesses;
       sites = old.sites;
       detector = c.pass.new.self;
     }) at.seen at.known gone.gone passes several refl refl refl refl refl c.pass.ensures row.apart row.entry
@@ -60,6 +61,7 @@ returns-clause-seen c at =
       names = old.names;
       bounds = old.bounds;
       watches = old.watches;
+      accesses = old.accesses;
       sites = old.sites;
       detector = c.pass-2.new.self;
     }) at.seen at.known refl refl refl refl refl c.pass-2.ensures row.apart row.entry

@@ -30,6 +30,7 @@ returns-then-is_alone c at =
       names = old.names;
       bounds = old.bounds;
       watches = old.watches;
+      accesses = old.accesses;
       sites = old.sites;
       detector = c.pass.new.self;
     }) at.seen at.known alone refl refl refl refl refl c.pass.ensures
@@ -51,9 +52,10 @@ returns c at =
       names = old.names;
       bounds = old.bounds;
       watches = old.watches;
-      sites = c.numbered.new.sites;
+      accesses = c.number_accesses.new.numbered;
+      sites = c.number_accesses.new.sites;
       detector = c.observe.new.self;
-    }) at.seen at.known c.in_ok-accesses.ensures.kept.0 c.in_ok-accesses.ensures.kept.1 refl refl refl top.0 c.end.new.self (
+    }) at.seen at.known c.in_ok-number_accesses.ensures.kept.0 c.in_ok-number_accesses.ensures.kept.1 refl refl refl top.0 c.end.new.self (
     event_in (
     record {
       process = c.end.new.self.process;
@@ -68,7 +70,7 @@ returns c at =
       makes = refl;
       needs = c.unit_needed.ensures;
       changes = λ i at. list_any (λ v. unit_eq v at) (changed i);
-      numbered = c.in_ok-accesses.accesses.items;
+      numbered = c.number_accesses.new.numbered.items;
       accesses = ap (map access_in) c.deref-3.ensures.value;
-      are = c.in_ok-accesses.ensures.numbered;
+      are = c.in_ok-number_accesses.ensures.numbered;
     }) (c.in_ok-observe.ensures (at.seen.alone + length at.seen.events) at.known.noted at.known.detected) several

@@ -16,7 +16,7 @@ returns-in-Some-clause-named c =
     let unit = c.args.symbols.now in
     let known = c.args.constants.now in
     array-named unit known t c.in-Some.shape.now c.is_empty-in-Some.result _ c.array.result (sym c.is_array.ensures ∙ c.if-not-is_array.false)
-    (c.in_ok-prepare.ensures.table.shaped t.occurrence.name c.in-Some.shape.now (sym c.in-Some.ensures.value))
+    (c.in_ok-prepare.ensures.table t.occurrence.name c.in-Some.shape.now (sym c.in-Some.ensures.value))
     (nonempty-not t.subscripts c.as_slice-subscripts.result.now c.is_empty-in-Some.result c.as_slice-subscripts.ensures c.is_empty-in-Some.ensures)
     (c.in_ok-integers.ensures ∙ ap (λ ts. option_map integers_of (values_of unit (value_among known) (trees_of ts))) c.as_slice-subscripts.ensures)
     c.array.ensures

@@ -1,2 +1,0 @@
-pub mod Evaluation
-pub mod Bounds
