@@ -314,7 +314,8 @@ impl Search {
 
     /// Whether a frame had no gap.
     pub fn is_full(&self) -> bool
-        ensures { result ≡ false → self.now.full ≡ None }
+        ensures none { result ≡ false → self.now.full ≡ None }
+        ensures some { result ≡ true → self.now.full ≢ None }
     {
         self.full.is_some()
     }

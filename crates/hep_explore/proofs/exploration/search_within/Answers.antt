@@ -10,7 +10,7 @@ pub returns-then-not-is_full : goal.returns-then-not-is_full
 returns-then-not-is_full g c =
     let is = c.in_ok-search.ensures in
     let s = known_of c.in_ok-search.search in
-    let none = c.is_full.ensures c.if-not-is_full.true in
+    let none = c.is_full.ensures.none c.if-not-is_full.true in
     record {
       search = is.search;
       expanded = is.expanded;
